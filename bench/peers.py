@@ -47,11 +47,11 @@ def counts_of(command, plan):
     return {name: float(count) if "." in count else int(count) for name, count in found}
 
 
-def times_of(commands, plan, rounds):
+def times_of(commands, plan, rounds, told="median"):
     """Runs the commands in turn on a plan, and returns the milliseconds that each told in each round, by its name."""
     times = {name: [] for name in commands}
     for name in [*commands] * rounds:
-        times[name].append(counts_of(commands[name], plan)["median"] / 1000)
+        times[name].append(counts_of(commands[name], plan)[told] / 1000)
     return times
 
 

@@ -19,11 +19,15 @@ export function wholeLesson({ title, moments }) {
 }
 
 // What is said of a moment, with no part that is as it is at the beginning.
-function saidOf({ path, plan, list, at, by, seed, speed, lesson, moment, isOfThreads }) {
+function saidOf({ path, plan, list, at, by, seed, speed, lesson, moment, isAtMoment, isOfThreads, best }) {
   const escaped = (text) => encodeURIComponent(text).replaceAll("%2F", "/");
-  const parts = [isOfAll(path, "plans") ? `plan=${escaped(path)}` : `text=${escaped(plan)}`];
-  if (list.length) parts.push(`choices=${list.join(",")}`);
-  if (at !== list.length) parts.push(`at=${at}`);
+  const parts = [];
+  // A moment of a lesson that each page has says the rest.
+  if (!isAtMoment || !isOfAll(lesson?.path, "lessons")) {
+    parts.push(isOfAll(path, "plans") ? `plan=${escaped(path)}` : `text=${escaped(plan)}`);
+    if (list.length) parts.push(`choices=${list.join(",")}`);
+    if (at !== list.length) parts.push(`at=${at}`);
+  }
   if (by !== "random") parts.push(`by=${by}`);
   if (seed !== 1) parts.push(`seed=${seed}`);
   if (speed !== 1.5) parts.push(`speed=${speed}`);
@@ -31,6 +35,7 @@ function saidOf({ path, plan, list, at, by, seed, speed, lesson, moment, isOfThr
   if (isOfAll(lesson?.path, "lessons")) parts.push(`lesson=${escaped(lesson.path)}`);
   else if (lesson) parts.push(`own=${escaped(wholeLesson(lesson))}`);
   if (lesson) parts.push(`moment=${moment + 1}`);
+  if (lesson && best) parts.push(`best=${best}`);
   return parts.join("&");
 }
 
@@ -76,5 +81,6 @@ export async function momentOf(address) {
     lesson: said.get("lesson"),
     own: said.get("own"),
     moment: (wholeOf(said, "moment", 1, 1e6) ?? 1) - 1,
+    best: wholeOf(said, "best", 1, 1e6),
   };
 }

@@ -2,17 +2,23 @@
 
 import { element } from "./marks.js";
 
-// How many letters a row of the box has at most, how wide a letter is, and how high a row is.
-const BOX = { letters: 18, wide: 8, high: 17 };
+// How many letters a row of the box has at most, how wide a letter is, how high a row is, and the size of its letters,
+// in the order in which boxes are tried.
+const BOXES = [
+  { letters: 18, wide: 8, high: 17, font: 13 }, { letters: 12, wide: 8, high: 17, font: 13 },
+  { letters: 13, wide: 6.6, high: 14, font: 11 },
+];
+// Which part of a box may cover other things.
+const COVERS = 0.05;
 // How far a box is from its thing, in the order in which places are tried, and in how many directions.
 const TRIED = { far: [14, 30, 55, 90], ways: 16 };
 // What it costs that the leader crosses another thing, and at which parts of its way that is looked for.
 const CROSSED = { cost: 400, parts: [0, 0.25, 0.5, 0.75] };
 
-function rowsOf(words) {
+function rowsOf(words, letters) {
   const rows = [""];
   for (const word of words.split(" ")) {
-    if (rows.at(-1) && rows.at(-1).length + word.length >= BOX.letters) rows.push("");
+    if (rows.at(-1) && rows.at(-1).length + word.length >= letters) rows.push("");
     rows.push(`${rows.pop()} ${word}`.trim());
   }
   return rows;
@@ -46,6 +52,7 @@ function bestBox(size, thing, { width, height }, others) {
       const left = Math.max(0, size.wide + 3 - box.x, box.x + size.wide + 3 - width);
       const over = Math.max(0, size.high + 3 - box.y, box.y + size.high + 3 - height);
       const covers = others.reduce((sum, it) => sum + covered(box, it), 0) + 1000 * (left + over);
+      box.covers = covers;
       const cost = covers + CROSSED.cost * crossed(thing, right, down, out - thing.radius, others) + 2 * far;
       if (!best || cost < best.cost) best = { ...box, cost };
     }
@@ -53,20 +60,34 @@ function bestBox(size, thing, { width, height }, others) {
   return best;
 }
 
-// Draws a box with words for a thing, which has a place and a radius. Others are what it should not cover.
+// The first of the boxes that has a place where it covers nothing else, or null.
+function boxOf(words, thing, room, others) {
+  for (const size of BOXES) {
+    const rows = rowsOf(words, size.letters);
+    const [wide, high] = [Math.max(...rows.map((it) => it.length)) * size.wide + 18, rows.length * size.high + 10];
+    const found = bestBox({ wide: wide / 2, high: high / 2 }, thing, room, others);
+    if (found.covers <= COVERS * wide * high) return { ...size, ...found, rows, wide, high, row: size.high };
+  }
+  return null;
+}
+
+// Draws a box with words for a thing, which has a place and a radius. Others are what it should not cover. Returns null
+// where there is no space for it.
 export function drawCallout(svg, thing, words, others) {
+  const box = boxOf(words, thing, svg.viewBox.baseVal, others);
+  if (!box) return null;
   const group = element("g", { class: "callout" }, svg);
-  const rows = rowsOf(words);
-  const [wide, high] = [Math.max(...rows.map((it) => it.length)) * BOX.wide + 18, rows.length * BOX.high + 10];
-  const { x, y } = bestBox({ wide: wide / 2, high: high / 2 }, thing, svg.viewBox.baseVal, others);
+  const { x, y, rows, wide, high, row, font } = box;
   const far = Math.hypot(thing.x - x, thing.y - y);
   const [right, down] = [(x - thing.x) / far, (y - thing.y) / far];
   const tip = `${thing.x + right * thing.radius},${thing.y + down * thing.radius}`;
   const leader = `M${x - 7 * down},${y + 7 * right}L${tip}L${x + 7 * down},${y - 7 * right}Z`;
   element("path", { class: "leader", d: leader }, group);
   element("rect", { x: x - wide / 2, y: y - high / 2, width: wide, height: high, rx: 8 }, group);
-  rows.forEach((row, turn) => {
-    element("text", { x, y: y + (turn - (rows.length - 1) / 2) * BOX.high }, group).textContent = row;
+  rows.forEach((text, turn) => {
+    const made = element("text", { x, y: y + (turn - (rows.length - 1) / 2) * row }, group);
+    made.style.fontSize = `${font}px`;
+    made.textContent = text;
   });
   return group;
 }

@@ -28,7 +28,7 @@ const CHECKS = [
   ["neighbours apart", "No two neighbours eat at the same time", areNeighboursApart],
   ["one fork", "Each edge has one fork", (state) => isEachOnce(state, "fork", "fork")],
   ["one token", "Each edge has one token", (state) => isEachOnce(state, "token", "request")],
-  ["no cycle", "The order fits all arrows, so precedence has no cycle", isOrderOf],
+  ["no ring of arrows", "The order of the sites fits all arrows, so no way along arrows comes back", isOrderOf],
   ["bounded events", "There are no more events than the bound of the plan", (state) => state.events <= state.bound],
 ];
 

@@ -1,6 +1,7 @@
 // The list of enabled events, as buttons. The buttons stay while the list changes, so that the focus does too.
 
-import { setText, textElement } from "./marks.js";
+import { FEW, setText, textElement } from "./marks.js";
+import { ruleOf, wordsAhead } from "./sentences.js";
 
 export class EnabledList {
   // `parts` has the list, the count, and what is done at a choice, and at a light.
@@ -50,8 +51,8 @@ export class EnabledList {
     events.forEach((event, place) => {
       const { button, parts: [kbd, words, rule] } = this.items[place];
       setText(kbd, event.number);
-      setText(words, event.words);
-      setText(rule, event.rule);
+      setText(words, wordsAhead(event));
+      setText(rule, ruleOf(event));
       button.classList.toggle("next", event.number === next);
     });
     this.place(events.length, total);
@@ -60,6 +61,7 @@ export class EnabledList {
   }
 
   place(count, total) {
+    this.list.classList.toggle("few", count <= FEW);
     while (this.list.children.length > count || this.list.lastChild === this.none) this.list.lastChild.remove();
     for (let place = this.list.children.length; place < count; place += 1) this.list.append(this.items[place].item);
     if (count === 0) {

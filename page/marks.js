@@ -7,6 +7,9 @@ const DOT = { fork: 11.5, token: 12 };
 const SAUCE = [[-7.5, -7.5, 2.9], [0, -3.5, 2.5], [7.5, -8.8, 2.3], [5, 0.6, 2.3]];
 const SHINE = [[9, -10, 5.4], [-8.5, 3.5, 4]];
 
+// Up to how many rows a list is shown whole.
+export const FEW = 10;
+
 export const between = (least, number, most) => Math.max(least, Math.min(number, most));
 
 export function element(name, attributes = {}, inside = null) {
@@ -161,16 +164,23 @@ const LEGEND = [
     element("line", { class: "lane", x1: -10, y1: 0, x2: 4, y2: 0 }, inside);
     element("path", { class: "tip", d: "M3,-4L9,0L3,4Z" }, inside);
   }, ({ letters }) => letters.size > 0],
-  ["goes before", arrow("ranked"), ({ kinds, isPlain }) => !isPlain && kinds.has("arrows")],
-  ["waits for", arrow("caught"), ({ kinds, isPlain }) => isPlain && kinds.has("arrows")],
+  ["goes before", arrow("ranked"), ({ kinds, isPlain, arrows }) => {
+    return !isPlain && kinds.has("arrows") && arrows.has(false);
+  }],
+  ["goes before, once it asks", arrow("ranked idle"), ({ kinds, isPlain, arrows }) => {
+    return !isPlain && kinds.has("arrows") && arrows.has(true);
+  }],
+  ["goes before, and gives nothing", arrow("caught"), ({ kinds, isPlain }) => isPlain && kinds.has("arrows")],
   ["how many go before", (inside) => {
     const group = element("g", { class: "rank" }, element("g", { class: "counts" }, inside));
     element("circle", { r: 9 }, group);
     element("text", { "font-size": 12 }, group).textContent = "2";
   }, ({ kinds, isPlain }) => !isPlain && kinds.has("counts")],
+  ["0 of 2: meals that ended", null, ({ hasMeals }) => hasMeals],
   ["changed last", (inside) => {
     element("path", { class: "halo", d: outline("thinking", 8) }, element("g", { class: "site last" }, inside));
   }, ({ hasLast }) => hasLast],
+  ["chosen site", shape("thinking selected"), ({ hasChosen }) => hasChosen],
   ["done", shape("thinking done"), hasPhase("done")],
   ["quit", shape("thinking quit"), hasPhase("quit")],
   ["closed edge", (inside) => {
@@ -178,16 +188,19 @@ const LEGEND = [
   }, ({ hasClosed }) => hasClosed],
 ];
 
-// Draws the legend of what a picture has: each mark with what it means.
-export function drawLegend(list, had) {
+// Draws the legend of what a picture has: each mark with what it means. A tap on its words explains them.
+export function drawLegend(list, had, explain) {
   const entries = LEGEND.filter(([, , isThere]) => isThere(had));
   const key = entries.map(([words]) => words).join();
   if (list.dataset.key === key) return;
   list.dataset.key = key;
   list.replaceChildren(...entries.map(([words, draw]) => {
     const item = document.createElement("li");
-    draw(element("svg", { viewBox: "-11 -11 22 22", "aria-hidden": "true" }, item));
-    item.append(words);
+    if (draw) draw(element("svg", { viewBox: "-11 -11 22 22", "aria-hidden": "true" }, item));
+    const button = textElement("button", words, "explained");
+    button.type = "button";
+    button.addEventListener("click", () => explain(words));
+    item.append(button);
     return item;
   }));
 }

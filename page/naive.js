@@ -76,7 +76,7 @@ export class NaiveTable {
     }
     if (this.holders[edge] !== null) return null;
     this.holders[edge] = site;
-    return `${name} takes the fork between it and ${this.names[otherEnd(this.edges[edge], site)]}`;
+    return `${name} picks up the fork between it and ${this.names[otherEnd(this.edges[edge], site)]}`;
   }
 
   // Does the next event, one site after the other. Returns whether there was one.
@@ -90,6 +90,16 @@ export class NaiveTable {
       return true;
     }
     return false;
+  }
+
+  // Whether a site can do something: one that eats, one that thinks and has a meal left, or one whose fork is free.
+  hasNext() {
+    return this.turns.some((site) => {
+      if (this.phases[site] === "thinking") return this.eaten[site] < this.jobs[site];
+      if (this.phases[site] === "eating") return true;
+      const edge = this.wanted(site);
+      return edge === undefined || this.holders[edge] === null;
+    });
   }
 
   // Goes to where so many events are done, or as many as there are.
@@ -118,7 +128,7 @@ export class NaiveTable {
       const waits = sites.map((site, turn) => `${this.names[site]} ${turn ? "" : "waits "}for ${holder(site)}`);
       return `Deadlock: ${waits.join(", ")}. None of them can ever eat.`;
     }
-    if (this.ring === null) return `${this.words}. (Without a ring of sites plain forks can't lock.)`;
+    if (this.ring === null) return `${this.words}. (Without a ring of sites plain forks can't deadlock.)`;
     return this.words;
   }
 
@@ -136,7 +146,8 @@ export class NaiveTable {
         fork: this.holders[edge] === null ? { isFree: true } : { at: this.holders[edge] },
         token: null,
         dirty: null,
-        preferred: waiter(edge) < 0 ? null : waiter(edge),
+        // As by the rules, the arrow goes from the end that goes first: from the holder to the one that waits.
+        preferred: waiter(edge) < 0 ? null : this.holders[edge],
         isCaught: isCaught && waiter(edge) >= 0,
       })),
       links: this.edges.flatMap(() => [{ letters: [] }, { letters: [] }]),

@@ -3,20 +3,28 @@
 import { momentOf } from "./address.js";
 import { Keys, openMenu } from "./keys.js";
 import { between, setAttribute, textElement } from "./marks.js";
-import { found, page } from "./state.js";
+import { found, page, seed } from "./state.js";
 import { keep, kept, saveFile, tomlOf } from "./moments.js";
-import { queue, timeline, planEditor, player, tell } from "./parts.js";
+import { lessonAfter } from "./lessons.js";
+import { compareView, queue, timeline, planEditor, player, tell } from "./parts.js";
 import { programOf } from "./program.js";
 import {
   choose, chooseRandom, jump, leaveLesson, openOffered, openPlan, openWritten, pause, quicker, runOnThreads, scrub,
-  showRate, step, takeOther, takeUp, undo,
+  showRate, showWait, step, takeOther, takeUp, undo,
 } from "./steps.js";
 import {
-  keepMoment, lessonOf, lessonSent, offerLessons, openLesson, openMoment, openNext, openScheduleOf, removeMoment,
-  showNext, writeMoment,
+  beginLesson, firstLesson, keepMoment, lessonOf, lessonSent, offerLessons, openLesson, openMoment, openMoments,
+  openNext, openScheduleOf, removeMoment, showNext, writeMoment,
 } from "./teach.js";
-import { nameOf, noteAddress, openPicture, select, shellLine, show, showKinds, writeAddress } from "./view.js";
+import {
+  keyOfState, nameOf, noteAddress, openPicture, select, shellLine, show, showKinds, writeAddress,
+} from "./view.js";
+import { DINE_SITE } from "./site.js";
+import { eventOf } from "./touch.js";
+import { openWords } from "./words.js";
 
+// The plan whose page has a front door.
+const FIRST = "plans/ring_of_five.toml";
 // How far a finger goes at least to turn to another moment, in points.
 const SWIPE = 50;
 
@@ -38,7 +46,13 @@ const copyLine = () => copy("copy", shellLine(), () => {
   return "Selected";
 });
 
-const copyLink = async () => copy("link", await writeAddress(), () => "It is above");
+// A link that is copied from a disk leads to where the page is published, if it is.
+const copyLink = async () => {
+  const address = await writeAddress();
+  const isPublished = DINE_SITE !== "" && location.protocol === "file:";
+  const link = isPublished ? `${DINE_SITE}index.html${/#.*|$/s.exec(address)[0]}` : address;
+  return copy("link", link, () => "It is above");
+};
 
 function turnTheme() {
   const root = document.documentElement;
@@ -65,6 +79,32 @@ const paused = (work) => () => {
 
 const back = () => jump((it) => it.at - 1);
 
+// Shows in a moment of a lesson what may happen, or hides it again.
+function turnOpen() {
+  if (!page.lesson || (found("what-if").hidden && !page.isOpen)) return;
+  page.isOpen = !page.isOpen;
+  show();
+}
+
+// Does the event of a thing that was tapped, or says why there is none. Where only one site and its neighbours are
+// shown, a tap on another one shows that.
+function touch(thing) {
+  pause();
+  const { site } = thing;
+  const isElsewhere = site !== undefined && page.focus !== null && site !== page.focus;
+  const { event, words, why } = eventOf(page.schedule.state, thing);
+  if (isElsewhere || (site !== undefined && document.body.classList.contains("asks"))) {
+    select(site === page.selected ? null : site);
+  } else if (event) {
+    if (site !== undefined && !page.lesson) page.selected = site;
+    press(event.number);
+  } else {
+    const isAgain = site !== undefined && site === page.selected;
+    page.touched = isAgain ? null : { words, why, key: keyOfState() };
+    select(site === undefined ? page.selected : isAgain ? null : site);
+  }
+}
+
 const BUTTONS = {
   reset: () => jump(() => 0),
   back,
@@ -82,14 +122,24 @@ const BUTTONS = {
   theme: turnTheme,
   large: turnLarge,
   help: () => found("keys").showModal(),
+  glossary: () => openWords(),
   unselect: () => select(null),
   "zoom-in": () => timeline.zoom(2),
   "zoom-out": () => timeline.zoom(0.5),
   "zoom-all": () => timeline.zoomOut(),
   previous: () => openMoment(page.moment - 1),
   next: openNext,
+  "next-lesson": () => beginLesson(lessonAfter(page.lessons, page.lesson)),
+  "ways-of-moment": paused(() => compareView.runFor(page.lesson.moments[page.moment].ways)),
+  home: goHome,
+  count: () => openWords("bound"),
+  "edge-word": () => openWords("edge"),
   return: () => openMoment(page.moment),
   leave: leaveLesson,
+  "moment-count": openMoments,
+  "what-if": turnOpen,
+  begin: () => beginLesson(firstLesson()),
+  free: playFreely,
   keep: writeMoment,
   "keep-it": keepMoment,
   remove: removeMoment,
@@ -97,7 +147,7 @@ const BUTTONS = {
 };
 
 // What can be done before there is a plan.
-const WITHOUT_PLAN = new Set(["own", "use", "theme", "help", "large"]);
+const WITHOUT_PLAN = new Set(["own", "use", "theme", "help", "glossary", "large"]);
 
 const KEYS = {
   ArrowRight: BUTTONS.step,
@@ -125,9 +175,12 @@ const KEYS = {
   d: turnTheme,
   v: turnLarge,
   w: turn("ranks"),
+  e: turn("code-on"),
+  h: turnOpen,
   q: turn("predict"),
   n: turn("naive"),
   k: writeMoment,
+  i: BUTTONS.glossary,
   "?": BUTTONS.help,
 };
 
@@ -184,8 +237,20 @@ function listen() {
     event.preventDefault();
     keepMoment();
   });
+  found("find").addEventListener("submit", (event) => {
+    event.preventDefault();
+    if (page.schedule) showWait();
+  });
   for (const where of document.querySelectorAll(".picture, .lesson")) listenToSwipes(where);
   addEventListener("hashchange", () => openAddress());
+  found("code-on").addEventListener("change", () => {
+    keep("dine-code", found("code-on").checked ? "on" : "off");
+    if (!page.schedule) return;
+    show();
+    // On a small screen the algorithm is far below its switch.
+    if (!found("code").hidden) found("code").scrollIntoView({ block: "nearest" });
+  });
+  found("seed").addEventListener("change", () => { found("seed").value = seed(); });
   for (const name of ["predict", "focus"]) found(name).addEventListener("change", () => page.schedule && show());
   found("naive").addEventListener("change", () => {
     page.isPlain = false;
@@ -228,10 +293,27 @@ function watchSize() {
   for (const where of document.querySelectorAll(".canvas")) watch.observe(where);
 }
 
+// What the page can't do without, and from which versions on browsers have it.
+const NEEDED = {
+  WebAssembly: "WebAssembly", Worker: "Worker", ResizeObserver: "ResizeObserver",
+  DecompressionStream: "DecompressionStream, by which the page is unpacked",
+};
+
+// Says what is missing in this browser. Returns whether something is.
+function isLacking() {
+  const missing = Object.keys(NEEDED).filter((name) => !(name in globalThis)).map((name) => NEEDED[name]);
+  if (!missing.length) return false;
+  tell(`This browser has no ${missing.join(" and no ")}. Chrome 103, Firefox 113 and Safari 16.4 and later have it.`);
+  return true;
+}
+
 async function begin() {
-  Object.assign(page.does, { select, show, showNext, scrub, step, takeOther, openWritten, press });
+  found("needs").remove();
+  if (isLacking()) return;
+  Object.assign(page.does, { select, show, showNext, scrub, step, takeOther, openWritten, press, touch });
   if (kept("dine-theme")) document.documentElement.dataset.theme = kept("dine-theme");
   found("letters").checked = kept("dine-letters") !== "off";
+  found("code-on").checked = kept("dine-code") === "on";
   found("choices").append(textElement("b", ""), textElement("span", ""));
   page.program = await programOf();
   showRate();
@@ -239,7 +321,8 @@ async function begin() {
   watchSize();
   listen();
   const { catalog } = page.program;
-  Object.assign(page, { first: catalog.first, made: catalog.lesson, lessons: catalog.lessons });
+  const lessons = [...catalog.lessons].sort((one, other) => (one.place ?? 99) - (other.place ?? 99));
+  Object.assign(page, { first: catalog.first, made: catalog.lesson, lessons });
   for (const { path, text } of catalog.plans) page.plans.set(path, text);
   found("unproved").hidden = !catalog.unproved;
   for (const path of page.plans.keys()) found("plans").add(new Option(nameOf(path), path));
@@ -253,8 +336,8 @@ function pathOf(plan) {
 }
 
 // Shows what the address says, or else the plan or the lesson that the page was made for.
-function openAddress(address = location.hash) {
-  return queue.do(async () => {
+async function openAddress(address = location.hash) {
+  await queue.do(async () => {
     const said = await momentOf(address);
     if (said.by) found("pick").value = said.by;
     if (said.seed !== null) found("seed").value = said.seed;
@@ -266,21 +349,48 @@ function openAddress(address = location.hash) {
     const hasSchedule = said.path !== null || said.plan !== null || said.list.length > 0;
     const named = said.lesson ?? (hasSchedule ? null : page.made);
     const lesson = said.own ? lessonSent(said.own) : named ? lessonOf(named) : null;
+    if (named && !said.own && !lesson) throw new Error(`there is no lesson ${named} here`);
     const place = between(0, said.moment, Math.max(0, (lesson?.moments.length ?? 0) - 1));
     if (lesson?.moments.length && said.path === null && said.plan === null) {
       await openScheduleOf(lesson, place);
-      return;
+      page.best = said.best;
+    } else {
+      const plan = said.plan ?? page.plans.get(path);
+      await openPlan({ ...said, path, plan });
+      if (lesson) takeUp(lesson, place);
+      else leaveLesson();
+      page.best = said.best;
+      if (/^#?$/.test(address) && path === FIRST) openFront();
     }
-    const plan = said.plan ?? page.plans.get(path);
-    await openPlan({ ...said, path, plan });
-    if (lesson) takeUp(lesson, place);
-    else leaveLesson();
   });
+  // What an address shows is where the browser is already.
+  page.isTurned = false;
+}
+
+// The front door: the picture with its forks, what the trouble is, and where to begin.
+function openFront() {
+  Object.assign(page, { isFront: true, kinds: ["forks"] });
+  // The article is beside docs/index.html, and beside no other copy of the page.
+  found("to-article").hidden = page.program.isServed || !/(\/|index\.html)$/.test(location.pathname);
+  showKinds();
+}
+
+// Back to what the page began with.
+async function goHome() {
+  pause();
+  await openAddress("");
+  page.isTurned = true;
+  scrollTo(0, 0);
+}
+
+function playFreely() {
+  Object.assign(page, { isFront: false, isTurned: true, kinds: null });
+  showKinds();
 }
 
 // Opens the lesson or the plan that the page begins with.
 async function openFirst({ begin }) {
-  await openAddress(location.hash.length < 2 ? begin : location.hash);
+  await openAddress(location.hash.length < 2 ? begin ?? "" : location.hash);
   // An address that shows nothing leaves the plan to be seen that the page was made for, and its fault.
   const plan = page.plans.get(page.first);
   if (!page.schedule && page.wanted !== plan) await openPlan({ path: page.first, plan });

@@ -2,6 +2,7 @@
 
 import { Queue, Player } from "./queue.js";
 import { Timeline } from "./timeline.js";
+import { CompareView } from "./compare_view.js";
 import { EnabledList } from "./enabled.js";
 import { LessonPanel } from "./lessons.js";
 import { setText } from "./marks.js";
@@ -11,6 +12,7 @@ import { Picture } from "./picture.js";
 import { Quiz } from "./quiz.js";
 import { faultText } from "./refusals.js";
 import { EdgeTable, SiteTable } from "./tables.js";
+import { CodeView } from "./code_view.js";
 import { Why } from "./why.js";
 
 // Shows a line about what went wrong, or none.
@@ -31,7 +33,7 @@ export const queue = new Queue({
     tell(fault ? faultText(fault.message, page.wanted) : "");
   },
 });
-export const picture = new Picture(found("picture"), turnSite);
+export const picture = new Picture(found("picture"), (thing) => page.does.touch(thing));
 export const naivePicture = new Picture(found("naive-picture"), () => {});
 export const timeline = new Timeline({
   names: found("timeline-names"),
@@ -58,13 +60,24 @@ export const why = new Why({
   close: found("unselect"),
   choose: pressEvent,
 });
+export const codeView = new CodeView({ list: found("code-lines"), note: found("code-note") });
 export const quiz = new Quiz({ form: found("quiz"), checked: () => page.does.show() });
 export const siteTable = new SiteTable(found("sites"), turnSite);
 export const edgeTable = new EdgeTable(found("edges"));
+export const compareView = new CompareView(found("compare"), (work) => queue.do(work));
 export const planEditor = new PlanEditor({
   dialog: found("plan-editor"),
   text: found("text"),
   fault: found("plan-fault"),
+  shape: found("own-shape"),
+  count: found("own-count"),
+  meals: found("own-meals"),
+  make: found("own-make"),
+  picture: found("own-picture"),
+  note: found("own-note"),
+  add: found("own-add"),
+  removing: found("own-remove"),
+  read: async (text) => (await page.program.states(text, [], [0]))[0],
   open: (plan) => page.does.openWritten(plan),
 });
 export const lessonPanel = new LessonPanel({
@@ -75,7 +88,10 @@ export const lessonPanel = new LessonPanel({
   question: found("question"),
   previous: found("previous"),
   next: found("next"),
+  ways: found("ways-of-moment"),
+  following: found("next-lesson"),
   back: found("return"),
+  whatIf: found("what-if"),
   save: found("save"),
   remove: found("remove"),
   play: () => page.does.showNext(),

@@ -5,16 +5,21 @@ import {
   between, commonOf, element, forkMark, outline, setAttribute, setText, shortened, tokenMark, wordMark,
 } from "./marks.js";
 import { drawCallout } from "./callout.js";
+import { roleText } from "./sentences.js";
 import { SHOWN, SITE, TURN, linesOf, placesOf, pointOf } from "./places.js";
 
 // The size that a picture is drawn for. It is drawn larger where there is space for it, with its letters.
 const DRAWN = { width: 600, height: 400 };
-// The radius of what is hit by a click on a site, at least.
-const HIT = 10;
+// The radius of what is hit by a click on a site, and on a mark, at least.
+const HIT = { site: 10, mark: 5 };
 // Which letter an event moves, and to which mark it belongs.
 const MOVED = { fork: "forks", request: "tokens", done: "words", close: "words" };
 // How far a letter reaches before and behind its middle, in sizes of the marks; a fork as far as it is long.
 const REACH = 0.4;
+// How far from the site that takes them letters on their way are, as a part of the edge.
+const WAY = 0.45;
+// Up to how many letters a name beside a small site is upright. A longer one goes along the radius.
+const UPRIGHT = 2;
 
 // What a site does, in a word or two.
 export function doesWhat(site) {
@@ -47,12 +52,18 @@ export function countsBefore({ sites, edges, order }) {
   return before.map((those) => those.size);
 }
 
+// What was clicked, by the data of its mark.
+function thingOf({ site, edge, mark, to, letter }) {
+  if (site !== undefined) return { site: Number(site) };
+  return { edge: Number(edge), mark, ...(to === undefined ? {} : { to: Number(to), letter }) };
+}
+
 export class Picture {
   constructor(svg, click) {
     this.svg = svg;
     svg.addEventListener("click", (event) => {
-      const site = event.target.closest(".site")?.dataset.site;
-      if (site !== undefined) click(Number(site));
+      const thing = event.target.closest(".fork, .token, .word, .site")?.dataset;
+      if (thing) click(thingOf(thing));
     });
   }
 
@@ -82,10 +93,19 @@ export class Picture {
     this.sites = new Map(sites.map((site, turn) => {
       return [site, this.openSite(places[turn], state.sites[site], site, drawn)];
     }));
-    this.tokens = byEdge((line) => tokenMark(line.size, marks));
-    this.forks = byEdge((line) => forkMark(line.laid.fork * line.size, marks));
+    this.tokens = byEdge((line, edge) => this.hit(tokenMark(line.size, marks), line, { edge, mark: "token" }));
+    this.forks = byEdge((line, edge) => {
+      return this.hit(forkMark(line.laid.fork * line.size, marks), line, { edge, mark: "fork" });
+    });
     this.words = byEdge(() => element("g", {}, marks));
     this.marked = [];
+  }
+
+  // Has a mark be hit by a click near it too, and say what it is.
+  hit(mark, { size }, data) {
+    Object.assign(mark.dataset, data);
+    mark.prepend(element("circle", { class: "hit", r: between(HIT.mark, 0.75 * size, 18) }));
+    return mark;
   }
 
   openEdge(line, edge, inside) {
@@ -115,7 +135,7 @@ export class Picture {
     const at = `translate(${place.x},${place.y})`;
     const group = element("g", { class: "site", transform: at, "data-site": number }, inside);
     // A small site is hit by a click beside it too.
-    element("circle", { class: "hit", r: Math.max(HIT, place.radius) }, group);
+    element("circle", { class: "hit", r: Math.max(HIT.site, place.radius) }, group);
     const halo = element("path", { class: "halo" }, group);
     const shape = element("path", { class: "shape" }, group);
     const title = element("title", {}, group);
@@ -154,15 +174,33 @@ export class Picture {
 
   // The name of a small site, outside of the circle and along its radius.
   nameBeside(place, site, group) {
+    if (place.isCell) {
+      this.nameInCell(place, site, group);
+      return;
+    }
     const name = element("text", { class: "beside", "font-size": place.radius < 7 ? 10 : 11 }, group);
     name.textContent = shortened(site.name, place.letters, this.common);
     const angle = place.angle ?? -TURN / 4;
+    if (site.name.length <= UPRIGHT) {
+      const out = 1.3 * place.radius + 9;
+      for (const [key, part] of [["x", Math.cos(angle)], ["y", Math.sin(angle)]]) name.setAttribute(key, out * part);
+      name.setAttribute("text-anchor", "middle");
+      return;
+    }
     const isLeft = Math.cos(angle) < -0.001;
     const far = 1.3 * place.radius + 5;
     const degrees = (angle * 360) / TURN + (isLeft ? 180 : 0);
     name.setAttribute("transform", `rotate(${degrees})`);
     name.setAttribute("x", isLeft ? -far : far);
     name.setAttribute("text-anchor", isLeft ? "end" : "start");
+  }
+
+  // The name of a small site of a grid: below and to the right of it, where no edge is.
+  nameInCell(place, site, group) {
+    const far = Math.max(0.8 * place.radius + 3, 9);
+    const at = { x: far, y: far + 4, "text-anchor": "start", "font-size": 10 };
+    const name = element("text", { class: "beside", ...at }, group);
+    name.textContent = shortened(site.name, place.letters, this.common);
   }
 
   // Draws a state, of which only what differs from the one before is touched.
@@ -208,13 +246,15 @@ export class Picture {
     const [low, high] = edge.ends.map((site) => state.sites[site].name);
     const value = edge.value ?? null;
     const first = edge.preferred === undefined || edge.preferred === null ? null : state.sites[edge.preferred].name;
-    setText(drawn.title, `edge ${number}: ${low} ${edge.roles?.[0] ?? ""}, ${high} ${edge.roles?.[1] ?? ""}`
+    const [one, other] = [0, 1].map((end) => roleText(edge.roles?.[end]));
+    setText(drawn.title, `edge ${number}: ${low} ${one}, ${high} ${other}`
       + `${value === null ? "" : `, value ${value}`}${first === null ? "" : `; ${first} goes first`}`);
     if (drawn.label) setText(drawn.label, `=${value}`);
     const closed = edge.said?.filter((it) => it.close_put).length ?? 0;
     drawn.group.classList.toggle("closing", closed === 1);
     drawn.group.classList.toggle("closed", closed === 2);
     drawn.group.classList.toggle("caught", edge.isCaught === true);
+    drawn.group.classList.toggle("idle", isIdle(edge));
     const turned = edge.preferred === edge.ends[1] ? 180 : 0;
     drawn.head.style.visibility = first === null ? "hidden" : "";
     this.put(drawn.head, drawn.place, line.angle + turned);
@@ -248,7 +288,8 @@ export class Picture {
     return pointOf(line, end ? line.length - along : along, end ? beside : -beside);
   }
 
-  // Draws the letters of a link along its edge. They wait before the site that takes them, the first of them in front.
+  // Draws the letters of a link along its edge, the first of them in front. They are about in the middle, so that none
+  // looks as if it had arrived, and a little nearer to the site that takes them.
   showLink({ edge, from, to, letters }) {
     const [line, lane] = [this.lines.get(edge), this.lanes.get(edge)];
     const { size, laid } = line;
@@ -259,18 +300,21 @@ export class Picture {
     const path = element("g", { class: letters.every((it) => it === "request") ? "lane-of-request" : "" }, lane);
     element("line", { class: "lane", x1: begin.x, y1: begin.y, x2: tip.x, y2: tip.y }, path);
     const turned = `translate(${tip.x},${tip.y}) rotate(${line.angle + (end ? 0 : 180)})`;
-    const long = Math.min(4, 0.3 * size);
-    const head = `M${-long},${-1.2 * long}L${long},0L${-long},${1.2 * long}Z`;
+    const tall = Math.min(4, 0.3 * size);
+    const head = `M${-tall},${-1.2 * tall}L${tall},0L${-tall},${1.2 * tall}Z`;
     element("path", { class: "tip", d: head, transform: turned }, path);
-    // Where a token is held on the line, letters wait behind it.
-    let far = laid.beside ? 10 : 1.9 * size;
-    for (const letter of letters) {
-      const half = (letter === "fork" ? laid.fork / 2 : REACH) * size;
+    const word = { edge, mark: "word", to };
+    const halves = letters.map((letter) => (letter === "fork" ? laid.fork / 2 : REACH) * size);
+    const long = halves.reduce((sum, half) => sum + 2 * half + 2, 0);
+    // Many letters reach to the site. Where a token is held on the line, they wait behind it.
+    let far = Math.max(laid.beside ? 10 : 1.9 * size, WAY * whole - long / 2);
+    for (const [turn, letter] of letters.entries()) {
+      const { [turn]: half } = halves;
       const at = this.pointAt(line, end, far + half, beside);
       far += 2 * half + 2;
       if (letter === "fork") this.put(this.forks.get(edge), at, line.angle + (end ? -90 : 90));
       else if (letter === "request") this.put(this.tokens.get(edge), at);
-      else this.put(wordMark(letter, size, this.words.get(edge)), at);
+      else this.put(this.hit(wordMark(letter, size, this.words.get(edge)), line, { ...word, letter }), at);
     }
   }
 
@@ -295,7 +339,8 @@ export class Picture {
     this.edges?.forEach((drawn, number) => drawn.group.classList.toggle("lit", number === edge));
   }
 
-  // Has words point at a thing, such as "site e" or "fork a-b", or at nothing.
+  // Has words point at a thing, such as "site e" or "fork a-b", or at nothing. Returns the words if there is no space
+  // for them.
   point({ sites, edges }, thing, words) {
     this.callout?.remove();
     this.callout = null;
@@ -305,9 +350,10 @@ export class Picture {
     const site = this.sites.get(sites.findIndex((it) => it.name === name))?.place;
     const marks = { fork: this.forks, token: this.tokens, arrow: this.edges };
     const at = site ?? marks[kind]?.get(edge)?.place;
-    if (!at) return;
+    if (!at) return "";
     const far = (kind === "fork" ? 0.8 : 0.5) * (this.lines.get(edge)?.size ?? 0);
     this.callout = drawCallout(this.svg, { radius: far, ...at }, words ?? "", this.boxes());
+    return this.callout ? "" : words ?? "";
   }
 
   // What words in the picture should not cover.
@@ -323,16 +369,42 @@ export class Picture {
     return found;
   }
 
+  // Whether there is space for how many meals of a site have ended.
+  hasMeals() {
+    return [...this.sites.values()].some(({ texts }) => texts.length === 2);
+  }
+
   select(site) {
     this.sites?.forEach((drawn, number) => drawn.group.classList.toggle("selected", number === site));
   }
 }
 
-// What a picture shows, in words.
+// Whether the arrow of an edge does not count yet: the holder of the dirty fork has taken no request for it.
+export function isIdle({ fork, token, dirty }) {
+  return dirty === true && fork.at !== undefined && token?.at !== fork.at;
+}
+
+// Where a fork or a token is, in words.
+function placeText({ at, to, isFree }, names) {
+  if (isFree) return "on the table";
+  return at === undefined ? `on its way to ${names[to]}` : `at ${names[at]}`;
+}
+
+// What a picture shows of an edge, in words.
+export function textOfEdge({ ends, fork, token, dirty, preferred }, names) {
+  const kind = dirty === null ? "" : dirty ? "dirty " : "clean ";
+  const parts = [`${kind}fork ${placeText(fork, names)}`];
+  if (token) parts.push(`token ${placeText(token, names)}`);
+  if ((preferred ?? null) !== null) parts.push(`${names[preferred]} goes first`);
+  return `${names[ends[0]]} and ${names[ends[1]]}: ${parts.join(", ")}`;
+}
+
+// What a picture shows, in words: of few sites all, of many how many do what.
 function textOf(state) {
   if (state.sites.length <= 16) {
     const words = (site) => `${site.name} ${doesWhat(site)}, ${mealsOf(site)} of ${site.jobs} meals`;
-    return state.sites.map(words).join("; ");
+    const names = state.sites.map(({ name }) => name);
+    return [...state.sites.map(words), ...state.edges.map((edge) => textOfEdge(edge, names))].join("; ");
   }
   const count = (phase) => state.sites.filter((site) => site.phase === phase).length;
   const counts = ["thinking", "hungry", "eating"].map((phase) => `${count(phase)} ${phase}`);

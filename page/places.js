@@ -81,7 +81,10 @@ function gridPlaces(cells, width, height) {
   const high = Math.max(...cells.map(({ y }) => y));
   const step = { x: width / (wide + 1), y: height / (high + 1) };
   const radius = between(SITE.least, Math.min(step.x * 0.2, high ? step.y * 0.22 : Infinity), SITE.most);
-  const drawn = { radius, angle: -TURN / 4, letters: SHOWN };
+  // A name beside a small site is between four edges.
+  const letters = between(1, Math.floor((step.x - Math.max(0.8 * radius + 3, 9) - 9) / BESIDE.wide), SHOWN);
+  const isSmall = radius < SITE.name;
+  const drawn = { radius, angle: -TURN / 4, letters: isSmall ? letters : SHOWN, isCell: isSmall && high > 0 };
   const places = cells.map(({ x, y }) => ({ x: (x + 0.5) * step.x, y: (y + 0.5) * step.y, ...drawn }));
   return { width, height, places };
 }

@@ -3,7 +3,7 @@
 
 import { choiceElement, rowElement, textElement } from "./marks.js";
 import { drawn } from "./schedule.js";
-import { whyNot } from "./sentences.js";
+import { ruleOf, whyNot, wordsAhead } from "./sentences.js";
 
 // How many events are asked about, and up to how many of them are enabled.
 const ASKED = { all: 6, enabled: 3 };
@@ -22,7 +22,7 @@ function drawnOf(list, count, seed, place) {
 
 // Some events that may happen in a state and some that may not, mixed.
 function candidatesOf(state, seed) {
-  const enabled = state.enabled.map(({ words, rule }) => ({ words, why: rule, isEnabled: true }));
+  const enabled = state.enabled.map((event) => ({ words: wordsAhead(event), why: ruleOf(event), isEnabled: true }));
   const asked = (it) => TELLING.has(it.code) && !(it.kind === "ask" && it.code === "eating");
   const others = state.sites.flatMap((_, site) => whyNot(state, site)).filter(asked);
   const may = drawnOf(enabled, ASKED.enabled, seed, state.events);
@@ -51,8 +51,8 @@ export class Quiz {
     this.button = textElement("button", "Check", "main");
     this.button.type = "submit";
     this.answer = textElement("output", this.asked ? this.score() : "");
-    const row = rowElement(this.button, this.answer);
-    this.form.replaceChildren(textElement("p", "Tick all that may happen next."), ...items, row);
+    const head = rowElement(textElement("p", "Tick all that may happen next."), this.answer);
+    this.form.replaceChildren(head, ...items, this.button);
   }
 
   hide() {
@@ -74,7 +74,7 @@ export class Quiz {
       this.right += isRight ? 1 : 0;
       box.disabled = true;
       labels[place].classList.add(isRight ? "right" : "wrong");
-      const said = `${isRight ? "✓" : "✗"} ${isEnabled ? "may happen" : "may not"}: ${why}`;
+      const said = `${isRight ? "✓ Right" : "✗ Wrong"}. It ${isEnabled ? "may" : "may not"} happen: ${why}`;
       labels[place].append(textElement("small", said));
     });
     this.answer.textContent = this.score();

@@ -1,5 +1,7 @@
-// Why a plan is refused, in a sentence, and the line of its text that it is about. tools/explain reads the sentences too, so
-// they are written as JSON.
+// Why a plan is refused, in a sentence, and the line of its text that it is about. tools/explain reads the sentences
+// too, so they are written as JSON.
+
+import { spotOf } from "./plan_places.js";
 
 const SENTENCES = {
   "NotToml": "The text is not TOML.",
@@ -23,30 +25,23 @@ const SENTENCES = {
   "UnknownPolicy": "on_fault of this site is neither \"go\" nor \"resign\"."
 };
 
-// The lines, from 0, of the site or edge with this number: from its header to the one before the next header.
-function linesOfTable(text, table, number) {
-  const lines = text.split("\n");
-  const isHeader = (line) => /^\s*\[/.test(line);
-  const begins = [...lines.keys()].filter((line) => new RegExp(`^\\s*\\[\\[\\s*${table}\\s*\\]\\]`).test(lines[line]));
-  const from = begins[number];
-  if (from === undefined) return null;
-  const next = lines.findIndex((line, place) => place > from && isHeader(line));
-  let to = next < 0 ? lines.length - 1 : next - 1;
-  while (to > from && lines[to].trim() === "") to -= 1;
-  return { from, to };
-}
-
 // A fault in words that the page shows at its head: the sentence of a refusal, or the line as it is.
 export function faultText(line, text) {
   const { sentence } = refusalOf(line, text);
   return sentence === line ? line : `The plan is refused. ${sentence}`;
 }
 
-// The sentence for the program's line, and the lines of the text that it is about, or null.
+// The sentence for the program's line, with the line of the text and what is to be mended there, and the range of that
+// in the text, or null.
 export function refusalOf(line, text) {
   const [, name, table, number] = /plan refused: \d+ (\w+)(?: at (site|edge) (\d+))?/.exec(line) ?? [];
-  if (!SENTENCES[name]) return { sentence: line, lines: null };
-  const lines = table ? linesOfTable(text, table, Number(number)) : null;
-  const where = lines ? ` Line ${lines.from + 1}.` : table ? ` It is ${table} ${number}, counted from 0.` : "";
-  return { sentence: `${SENTENCES[name]}${where}`, lines };
+  if (!SENTENCES[name]) return { sentence: line, range: null };
+  const spot = spotOf(name, text, Number(number ?? 0));
+  const where = table ? ` It is ${table} ${number}, counted from 0.` : "";
+  if (!spot) return { sentence: SENTENCES[name] + where, range: null };
+  const row = text.slice(0, spot.from).split("\n").length;
+  const what = text.slice(spot.from, spot.to).split("\n")[0].trim();
+  const thing = what && what.length <= 40 ? `, ${what}` : "";
+  const said = `${spot.said}${spot.said.endsWith("?") ? "" : "."}`;
+  return { sentence: `${SENTENCES[name]} Line ${row}${thing}: ${said}`, range: { from: spot.from, to: spot.to } };
 }

@@ -59,6 +59,10 @@ export class Schedule {
     // Where the list was cut off by its last change.
     this.cut = 0;
     this.isOfThreads = false;
+    // From which place of the list on the reader picked all events.
+    this.own = 0;
+    // How many events of the list the reader has seen.
+    this.seen = 0;
     // How many of the choices that it was opened with were left out, and where that is said.
     this.left = { count: 0, at: 0 };
     // About how many letters a state has.
@@ -75,6 +79,8 @@ export class Schedule {
     this.states.clear();
     this.version += 1;
     this.cut = 0;
+    this.seen = 0;
+    this.own = this.list.length;
     await this.go(between(0, at ?? Math.min(list.length, this.list.length), this.list.length));
     this.left = { count: Math.max(0, list.length - this.list.length), at: this.at };
   }
@@ -95,13 +101,14 @@ export class Schedule {
     if (this.states.size > most) this.states.delete(this.states.keys().next().value);
   }
 
-  // Goes to where so many choices are done. A step back asks for the states before that one too, some of them meanwhile:
-  // the rules only go on, and a place behind them is reached from the start.
+  // Goes to where so many choices are done. A step back asks for the states before that one too, some of them
+  // meanwhile: the rules only go on, and a place behind them is reached from the start.
   async go(count) {
     const isBack = count === this.at - 1;
     if (!this.states.has(count)) await this.pending;
     if (!this.states.has(count)) await this.fetch(isBack ? this.placesBefore(count) : [count]);
     this.at = count;
+    this.seen = Math.max(this.seen, count);
     this.state = this.states.get(count);
     if (isBack) this.askBefore();
   }
@@ -124,8 +131,9 @@ export class Schedule {
     });
   }
 
-  // Does the enabled event with this number. If another was to follow, all that was to follow is forgotten.
-  async choose(number) {
+  // Does the enabled event with this number, which the reader picked or not. If another was to follow, all that was to
+  // follow is forgotten.
+  async choose(number, isPicked = true) {
     if (this.at < this.list.length && this.list[this.at] === number) {
       await this.go(this.at + 1);
       return;
@@ -137,8 +145,10 @@ export class Schedule {
     for (const count of [...this.states.keys()]) if (count > this.at) this.states.delete(count);
     this.events.with(this.at, this.state.enabled[number]);
     this.cut = this.at;
+    this.own = isPicked ? Math.min(this.own, this.at) : list.length;
     this.list = list;
     this.at = list.length;
+    this.seen = list.length;
     this.state = state;
     this.isOfThreads = false;
     this.version += 1;

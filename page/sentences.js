@@ -17,7 +17,7 @@ const WHY_NOT = {
   give: {
     closed: () => "it has closed the edge",
     no_fork: () => "it does not hold the fork",
-    not_asked: (it) => `${it} has not asked for it`,
+    not_asked: (it) => `no request of ${it} has arrived that is still open`,
     eating: () => "it eats with it, and gives it after the meal",
     clean: () => "the fork is clean: a clean fork is kept until its holder has eaten (release rule)",
   },
@@ -41,7 +41,7 @@ const WHY_NOT = {
   begin: { not_hungry: () => "it is not hungry", eating: () => "it eats already" },
   quit: {
     never_resigns: () => "the plan lets it go on after a failed meal",
-    no_fault: () => "no meal of it has failed",
+    no_fault: () => "no meal of it has failed while others were left",
     eating: () => "it eats",
     has_quit: () => "it has quit already",
   },
@@ -61,14 +61,38 @@ const EVENTS = {
   ask: (site, it) => `${site} asks ${it} for their fork`,
   done: (site, it) => `${site} says done to ${it}`,
   close: (site, it) => `${site} closes to ${it}`,
-  end: (site, it, meals) => `${site} ends meal ${Math.max(1, meals)}`,
-  begin: (site, it, meals) => `${site} begins meal ${meals + 1}`,
+  end: (site) => `${site} ends a meal`,
+  begin: (site, it, next) => `${site} begins ${next ? `meal ${next}` : "another meal"}`,
   quit: (site) => `${site} quits`,
   hungry: (site) => `${site} grows hungry`,
 };
 
-function wordsOf(kind, { name, eaten }, neighbour = "") {
-  return EVENTS[kind](name, neighbour, eaten);
+// An event that is not enabled, in words. Only a site with a meal left has a next one.
+function wordsOf(kind, { name, eaten, left }, neighbour = "") {
+  return EVENTS[kind](name, neighbour, left > 0 ? eaten + 1 : 0);
+}
+
+// What is said of an end of an edge, by what it has there.
+const ROLES = {
+  owner: "has the fork",
+  asked: "has the fork, and was asked for it",
+  rester: "has the token",
+  waiter: "has asked for the fork",
+};
+
+export function roleText(role) {
+  return ROLES[role] ?? role ?? "";
+}
+
+// The rule of an event, with the page's word for a job. A request that is on its way keeps nobody from a meal, though
+// its sender has asked.
+export function ruleOf({ rule }) {
+  return rule.replace(/\bjobs\b/g, "meals").replace("or not asked for", "or with no request taken");
+}
+
+// An enabled event in words. The program says of a meal that it failed, also where it is still to end.
+export function wordsAhead({ words }) {
+  return words.replace(/, which failed$/, ", which fails");
 }
 
 export function otherEnd(edge, site) {
@@ -96,6 +120,12 @@ function reason(kind, code, neighbour) {
   return (WHY_NOT[kind]?.[code] ?? (() => code))(neighbour);
 }
 
+// Why an event that is about no edge is not enabled. A site without meals can't be hungry.
+function ownReason(kind, code, { left, quit }) {
+  if (kind === "begin" && code === "not_hungry" && left === 0) return quit ? "it has quit" : "it has no meal left";
+  return reason(kind, code, "");
+}
+
 // Why events of a site are not enabled: its own, and then those of each of its edges. Each has its kind, its edge, its
 // words and its reason.
 export function whyNot(state, site) {
@@ -103,7 +133,7 @@ export function whyNot(state, site) {
   const found = [];
   for (const [kind, code] of Object.entries(own ?? {})) {
     if (code === null) continue;
-    const why = code === "waits" ? waitsOf(state, site).join("; ") : reason(kind, code, "");
+    const why = code === "waits" ? waitsOf(state, site).join("; ") : ownReason(kind, code, state.sites[site]);
     found.push({ kind, edge: null, code, words: wordsOf(kind, state.sites[site]), why });
   }
   state.edges.forEach((edge, number) => {

@@ -3,16 +3,16 @@
 // The spans of each site and the moves of the forks, each by its places in the list. What has not ended ends at null.
 // `given` has the forks on their way, by their edges.
 export class Spans {
-  constructor(events, sites, edges) {
+  constructor(events, sites, edges, end = events.kinds.length) {
     const rows = () => sites.map(() => []);
     Object.assign(this, { edges, waits: rows(), meals: rows(), moves: [], given: new Map(), length: 0 });
-    this.extend(events);
+    this.extend(events, end);
   }
 
-  // Adds the events that follow those that are in the spans already.
-  extend({ sites, edges, kinds }) {
-    for (let at = this.length; at < kinds.length; at += 1) this.add(kinds[at], sites[at], edges[at], at);
-    this.length = kinds.length;
+  // Adds the events that follow those that are in the spans already, up to an end.
+  extend({ sites, edges, kinds }, end = kinds.length) {
+    for (let at = this.length; at < end; at += 1) this.add(kinds[at], sites[at], edges[at], at);
+    this.length = Math.max(this.length, end);
   }
 
   add(kind, site, edge, place) {

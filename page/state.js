@@ -30,6 +30,13 @@ export const found = (name) => document.getElementById(name);
  * @property {{ skip: (value?: any) => void } | null} walk what plays the events up to a moment
  * @property {Naive | null} naive the table without the rules, of naive.js
  * @property {boolean} isPlain whether that table is shown alone
+ * @property {boolean} isFront whether the page shows its front door
+ * @property {boolean} isOpen whether the reader wants to see in a moment what may happen
+ * @property {boolean} isTurned whether something else is shown than before, so that the way back leads there
+ * @property {{ words: string, why: string, key: string } | null} touched what can't be done with what was tapped
+ * @property {{ words: string, version: number } | null} finding what was found of the run that is shown
+ * @property {number | null} best the score of the challenge that the address named
+ * @property {number | null} record the best score of the challenge that is shown
  * @property {string[] | null} kinds the kinds of marks that the picture shows, if a moment says which
  * @property {{ width: number, height: number, rem: number }} room how large the picture and letters may be
  * @property {number} scrubbed the place on the timeline that a pointer went to last
@@ -42,7 +49,8 @@ export const page = {
   schedule: null, past: [], other: null, wanted: "",
   selected: null, focus: null, hub: 0,
   lesson: null, moment: 0, way: [], walk: null,
-  naive: null, isPlain: false, kinds: null,
+  naive: null, isPlain: false, kinds: null, isFront: false, isOpen: false, isTurned: false, best: null, record: null,
+  touched: null, finding: null,
   room: { width: 600, height: 400, rem: 1 }, scrubbed: 0, does: {},
 };
 

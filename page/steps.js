@@ -4,6 +4,7 @@ import { between, setAttribute, setText } from "./marks.js";
 import { found, page, rate, seed } from "./state.js";
 import { NaiveTable } from "./naive.js";
 import { edgeTable, player, queue, siteTable } from "./parts.js";
+import { findWait } from "./finding.js";
 import { Schedule, drawn } from "./schedule.js";
 import { wayFrom } from "./lessons.js";
 import { hubSite, isCrowded, noteAddress, openPicture, show, showKinds } from "./view.js";
@@ -17,8 +18,8 @@ export const FLIGHT = 600;
 
 // Keeps the list that is shown, so that it can be had back. If events of it are still to come, the timeline has them.
 function remember() {
-  const { list, at, isOfThreads } = page.schedule;
-  const kept = { list, at, isOfThreads };
+  const { list, at, isOfThreads, own } = page.schedule;
+  const kept = { list, at, isOfThreads, own };
   page.past = [...page.past.slice(1 - PAST), { ...kept, other: page.other }];
   if (at < list.length) page.other = kept;
 }
@@ -28,7 +29,7 @@ async function doEvent(number) {
   const { schedule } = page;
   pace(player.isPlaying ? Math.min(FLIGHT, 800 / rate()) : FLIGHT);
   if (schedule.list[schedule.at] !== number) remember();
-  await schedule.choose(number);
+  await schedule.choose(number, !player.isPlaying);
   show();
 }
 
@@ -45,9 +46,9 @@ export function chooseRandom() {
   });
 }
 
-async function restore({ list, at, isOfThreads }) {
+async function restore({ list, at, isOfThreads, own = list.length }) {
   await page.schedule.open(list, at);
-  page.schedule.isOfThreads = isOfThreads;
+  Object.assign(page.schedule, { isOfThreads, own });
   show();
 }
 
@@ -66,10 +67,29 @@ export function undo() {
 export function takeOther() {
   pause();
   return queue.do(async () => {
-    const { other, schedule: { list, isOfThreads } } = page;
+    const { other, schedule: { list, isOfThreads, own } } = page;
     remember();
-    page.other = { list, at: other.at, isOfThreads };
+    page.other = { list, at: other.at, isOfThreads, own };
     await restore(other);
+  });
+}
+
+// Finds a run in which a site waits for so many events, and shows it where that site is to eat.
+export function showWait() {
+  pause();
+  return queue.do(async () => {
+    const { schedule } = page;
+    const [site, least] = ["find-site", "find-count"].map((it) => Number(found(it).value));
+    const { list, wait, runs } = await findWait(schedule, site, Math.max(1, least), seed());
+    const { name } = schedule.state.sites[site];
+    if (list) {
+      remember();
+      await restore({ list: Uint32Array.from(list), at: wait.to, isOfThreads: false });
+    }
+    const words = list ? `Run ${runs} of those tried: ${name} waits, events ${wait.from + 1} to ${wait.to}.`
+      : `${name} waits so long in none of ${runs.toLocaleString("en")} random runs.`;
+    page.finding = { words, version: schedule.version };
+    show();
   });
 }
 
@@ -98,12 +118,12 @@ export function pace(wait) {
 export async function step() {
   const { schedule } = page;
   const number = schedule.next(found("pick").value, seed());
-  if (number === null) {
+  if (number === null || (page.isPlain && !page.naive.hasNext())) {
     pause();
     return;
   }
   await doEvent(number);
-  const isEndOfWay = page.lesson !== null && schedule.at === page.way.length;
+  const isEndOfWay = page.lesson !== null && !page.isPlain && schedule.at === page.way.length;
   if (isEndOfWay || schedule.next("first", 0) === null) pause();
 }
 
@@ -130,6 +150,8 @@ export function runOnThreads() {
 async function playRun(list) {
   remember();
   await restore({ list, at: 0, isOfThreads: true });
+  // Space pauses then, and does not ask for another run.
+  found("play").focus({ preventScroll: true });
   player.play();
 }
 
@@ -166,7 +188,7 @@ export async function openPlan({ path, plan, list = [], at = null, isOfThreads =
   opened.isOfThreads = isOfThreads;
   const { state } = opened;
   Object.assign(page, { schedule: opened, selected: null, hub: hubSite(state), naive: new NaiveTable(state) });
-  Object.assign(page, { past: [], other: null });
+  Object.assign(page, { past: [], other: null, touched: null, finding: null, isFront: false, isTurned: true });
   if (path === null) offerOwn();
   found("threads").hidden = !page.program.hasRun(plan);
   setText(found("threads"), page.program.isServed ? "Run on threads" : "Recorded run on threads");
@@ -174,6 +196,7 @@ export async function openPlan({ path, plan, list = [], at = null, isOfThreads =
   setText(found("about"), aboutOf(plan));
   setAttribute(found("about"), "title", aboutOf(plan));
   found("focus-switch").hidden = !isCrowded(state);
+  found("find-site").replaceChildren(...state.sites.map(({ name }, site) => new Option(name, site)));
   siteTable.open(opened.state);
   edgeTable.open(opened.state);
   openPicture();
@@ -226,6 +249,11 @@ export function takeUp(lesson, place = 0) {
     kinds: moment?.show ?? null,
     isPlain: moment?.naive === "alone",
     selected: site < 0 ? null : site,
+    isFront: false,
+    isOpen: false,
+    isTurned: true,
+    touched: null,
+    best: null,
   });
   found("lessons").value = lesson?.path ?? "";
   found("naive").checked = moment?.naive === true;
@@ -235,6 +263,6 @@ export function takeUp(lesson, place = 0) {
 
 // Goes on without a lesson. The switches that a moment had set go back; what the reader had set stays.
 export function leaveLesson() {
-  if (page.lesson) takeUp(null);
+  if (page.lesson || page.kinds) takeUp(null);
   else show();
 }

@@ -1,11 +1,12 @@
 // The tables of the sites and the edges. A cell is touched only if its text is another, and the rows of what the last
 // event changed are marked.
 
-import { outline, phaseMark, setAttribute, setText, textElement } from "./marks.js";
+import { FEW, outline, phaseMark, setAttribute, setText, textElement } from "./marks.js";
 import { countsBefore, doesWhat, mealsOf } from "./picture.js";
-import { otherEnd } from "./sentences.js";
+import { otherEnd, roleText } from "./sentences.js";
 
 function emptyRows(body, count, width) {
+  body.closest(".scroll").classList.toggle("few", count <= FEW);
   body.replaceChildren(...Array.from({ length: count }, () => {
     const row = document.createElement("tr");
     row.append(...Array.from({ length: width }, () => document.createElement("td")));
@@ -40,7 +41,9 @@ export class SiteTable {
       const group = does.firstChild.firstChild;
       setAttribute(group, "class", `site ${site.phase}`);
       setAttribute(group.firstChild, "d", outline(site.phase, 7));
-      setText(does.lastChild, ` ${doesWhat(site)}${site.resigns && !site.quit ? ", quits after a failed meal" : ""}`);
+      // After its last meal a site has none left to drop.
+      const quits = site.resigns && !site.quit && site.left > 0;
+      setText(does.lastChild, ` ${doesWhat(site)}${quits ? ", quits after a failed meal" : ""}`);
       const failed = site.failed?.length ? `, failed: ${site.failed.join(", ")}` : "";
       setText(meals, `${mealsOf(site)} of ${site.jobs}${failed}`);
       setText(before, counts[number]);
@@ -69,7 +72,7 @@ export class EdgeTable {
     state.edges.forEach((edge, number) => {
       const row = this.table.tBodies[0].rows[number];
       const texts = [
-        String(number), ...edge.ends.map((site, turn) => `${name(site)}, ${endText(edge, turn)}`),
+        String(number), ...edge.ends.map((site, turn) => `${name(site)} ${endText(edge, turn)}`),
         `${edge.dirty ? "dirty" : "clean"}, ${where(edge.fork)}`, where(edge.token), firstText(state, edge),
       ];
       if (this.hasValues) texts.push(String(edge.value));
@@ -81,7 +84,7 @@ export class EdgeTable {
 
 function endText(edge, turn) {
   const said = edge.said[turn];
-  return `${edge.roles[turn]}${said.close_put ? ", closed" : said.done_put ? ", said done" : ""}`;
+  return `${roleText(edge.roles[turn])}${said.close_put ? ", closed" : said.done_put ? ", said done" : ""}`;
 }
 
 function firstText(state, edge) {

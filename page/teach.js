@@ -1,27 +1,39 @@
 // Lessons: which are offered, the moment that is shown, and the reader's own.
 
 import { wholeLesson } from "./address.js";
+import { setAttribute, setText, textElement } from "./marks.js";
 import { found, page } from "./state.js";
 import { OWN, SENT, keepLesson, ownLesson } from "./moments.js";
 import { numbersIn, placeOf, wayFrom } from "./lessons.js";
-import { queue } from "./parts.js";
+import { lessonPanel, queue } from "./parts.js";
 import { FLIGHT, openPlan, pace, pause, takeUp } from "./steps.js";
 import { show } from "./view.js";
 
 // How long all events on the way to a moment may take, in milliseconds.
 const WALK = 6000;
 
+// How long the page says that a moment is kept, in milliseconds.
+const KEPT_SAID = 1500;
+
 // Whether a moment of an address can be shown.
 function isMoment(it) {
   const isText = (key) => typeof (it[key] ?? "") === "string";
   const isList = (key) => Array.isArray(it[key] ?? []);
-  const texts = ["choices", "title", "note", "point", "callout"];
+  const texts = ["choices", "title", "note", "point", "callout", "ways"];
   return typeof it?.text === "string" && texts.every(isText) && ["show", "options", "hints"].every(isList);
+}
+
+function lessonIn(text) {
+  try {
+    return JSON.parse(text) ?? {};
+  } catch {
+    return {};
+  }
 }
 
 // The lesson that is whole in an address: one that the page has, or one of this address alone.
 export function lessonSent(text) {
-  const { title, moments } = JSON.parse(text);
+  const { title, moments } = lessonIn(text);
   if (!Array.isArray(moments) || !moments.every(isMoment)) throw new Error("the lesson of the address is none");
   const known = [...page.lessons, ownLesson()].find((it) => wholeLesson(it) === text);
   const lesson = known ?? { path: SENT, title, moments };
@@ -32,6 +44,11 @@ export function lessonSent(text) {
 
 export function lessonOf(path) {
   return path === OWN ? ownLesson() : page.lessons.find((it) => it.path === path) ?? null;
+}
+
+// The first of the lessons that the page offers.
+export function firstLesson() {
+  return page.lessons[0] ?? null;
 }
 
 // Whether the events up to a moment follow in the list from what is shown.
@@ -57,8 +74,9 @@ export function openMoment(place, isPlayed = false) {
   });
 }
 
-// Goes on to the next moment, or to the end of the way there if it is on it.
+// Goes on to the next moment, or to the end of the way there if it is on it. A question is passed at the second try.
 export function openNext() {
+  if (!page.lesson || (!page.walk && lessonPanel.isHeld())) return null;
   return page.walk ? openMoment(page.moment) : openMoment(page.moment + 1, true);
 }
 
@@ -98,9 +116,34 @@ export async function openScheduleOf(lesson, place) {
 }
 
 export function openLesson() {
-  const lesson = lessonOf(found("lessons").value);
-  takeUp(lesson);
-  return lesson?.moments.length ? openMoment(0) : null;
+  return beginLesson(lessonOf(found("lessons").value));
+}
+
+export function beginLesson(lesson) {
+  if (!lesson?.moments.length) return takeUp(lesson);
+  pause();
+  // The lesson is taken up with its first schedule: what is shown till then is not of it.
+  return queue.do(() => openScheduleOf(lesson, 0));
+}
+
+// Shows the moments of the lesson, of which one is opened by a click.
+export function openMoments() {
+  const items = page.lesson.moments.map(({ title, question }, place) => {
+    const item = document.createElement("li");
+    const button = textElement("button", title || `Moment ${place + 1}`, "quiet");
+    button.type = "button";
+    if (place === page.moment) setAttribute(button, "aria-current", "step");
+    button.addEventListener("click", () => {
+      found("moments").close();
+      openMoment(place);
+    });
+    item.append(button, ...(question ? [textElement("small", " with a question")] : []));
+    return item;
+  });
+  found("moments-list").replaceChildren(...items);
+  setText(found("moments-name"), page.lesson.title);
+  found("moments").showModal();
+  items[page.moment]?.firstChild.focus();
 }
 
 export function offerLessons() {
@@ -111,6 +154,14 @@ export function offerLessons() {
   items.push(new Option(page.lessons.some((it) => it.title === title) ? `${title}, in this browser` : title, OWN));
   menu.replaceChildren(new Option("no lesson", ""), ...items);
   menu.value = page.lesson?.path ?? "";
+  const list = page.lessons.filter(({ path }) => path !== SENT).map((lesson) => {
+    const [item, button] = [document.createElement("li"), textElement("button", lesson.title, "quiet")];
+    button.type = "button";
+    button.addEventListener("click", () => beginLesson(lesson));
+    item.append(button);
+    return item;
+  });
+  found("front-lessons").replaceChildren(...list);
 }
 
 // Asks for the words of the moment that is shown.
@@ -132,8 +183,15 @@ export function keepMoment() {
   keepLesson(lesson);
   found("keep-note").value = "";
   found("keep-dialog").close();
-  takeUp(lesson, lesson.moments.length - 1);
+  // A lesson that is shown stays.
+  if (!page.lesson || page.lesson.path === OWN) takeUp(lesson, lesson.moments.length - 1);
+  else sayKept();
   offerLessons();
+}
+
+function sayKept() {
+  setText(found("keep"), "Kept");
+  setTimeout(() => setText(found("keep"), "Keep this moment"), KEPT_SAID);
 }
 
 export function removeMoment() {

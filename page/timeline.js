@@ -53,7 +53,7 @@ export class Timeline {
     // The place behind the event that is pressed.
     const behind = (event) => {
       const far = event.clientX - this.scroll.getBoundingClientRect().left + this.left;
-      return between(0, Math.ceil(far / this.wide), this.schedule.list.length);
+      return between(0, Math.ceil(far / this.wide), this.end);
     };
     this.scroll.addEventListener("pointerdown", (event) => {
       // What is pressed outside of the inside is the scroll bar.
@@ -92,7 +92,7 @@ export class Timeline {
     const site = this.rowAt(event);
     const name = this.titles?.[site];
     if (name !== undefined) this.hint(spanAt(this.spans, site, name, place));
-    else this.hint(this.isOnOther(event) ? "a click takes back the choice, and these events follow again" : "");
+    else this.hint(this.isOnOther(event) ? "a tap takes back the choice, and these events follow again" : "");
   }
 
   measure() {
@@ -100,21 +100,24 @@ export class Timeline {
     // While the picture is as large as the window, there is no timeline.
     if (clientWidth === 0) return;
     this.room = clientWidth;
+    this.left = this.scroll.scrollLeft;
     if (!this.spans) return;
     this.fit();
     this.drawAll();
   }
 
-  // Draws the events of a schedule if they are others than before, and below them those of a list that was left.
-  draw(schedule, other) {
-    const { events, list, state, version } = schedule;
-    if (this.schedule === schedule && this.version === version && this.other === other) return;
+  // Draws the events of a schedule up to an end if they are others than before, and below them those of a list that was
+  // left.
+  draw(schedule, other, end = schedule.list.length) {
+    const { events, state, version } = schedule;
+    if (this.schedule === schedule && this.version === version && this.other === other && this.end === end) return;
     const isOther = this.schedule !== schedule;
-    const isLonger = !isOther && schedule.cut >= this.spans.length;
+    const isSame = version === this.version || schedule.cut >= this.spans?.length;
+    const isLonger = !isOther && isSame && end >= this.spans.length;
     const hasRows = !isOther && (this.other === null) === (other === null);
-    Object.assign(this, { schedule, version, other, total: Math.max(list.length, other?.list.length ?? 0) });
-    if (isLonger) this.spans.extend(events);
-    else this.spans = new Spans(events, state.sites, state.edges);
+    Object.assign(this, { schedule, version, other, end, total: Math.max(end, other?.list.length ?? 0) });
+    if (isLonger) this.spans.extend(events, end);
+    else this.spans = new Spans(events, state.sites, state.edges, end);
     if (!hasRows) this.openSites(state.sites);
     if (isOther) this.isFitted = true;
     this.fit();
@@ -133,7 +136,7 @@ export class Timeline {
     this.names.replaceChildren();
     this.names.setAttribute("width", width);
     this.names.setAttribute("height", this.height);
-    this.titles.concat(this.other ? "…" : []).forEach((name, number) => {
+    this.titles.concat(this.other ? "left" : []).forEach((name, number) => {
       const at = { x: width - 8, y: this.y(number) + size * 0.36, "font-size": size };
       element("text", at, this.names).textContent = shortened(name, most, common);
     });
@@ -176,10 +179,12 @@ export class Timeline {
   }
 
   drawAll() {
-    this.inside.style.width = `${Math.max(this.room, this.total * this.wide + 14)}px`;
+    this.width = Math.max(this.room, this.total * this.wide + 14);
+    this.inside.style.width = `${this.width}px`;
     this.view.style.width = `${this.room}px`;
     this.view.style.height = `${this.height}px`;
-    this.left = this.scroll.scrollLeft;
+    // To ask how far it is scrolled would cost a layout. If it gets narrower, the browser scrolls it and says so.
+    this.left = between(0, this.left, this.width - this.room);
     this.drawView();
   }
 
@@ -275,9 +280,11 @@ export class Timeline {
   show(at) {
     this.at = at;
     const far = at * this.wide;
-    if (far < this.left || far > this.left + this.room - 20) {
-      this.scroll.scrollLeft = far - this.room / 2;
-      this.left = this.scroll.scrollLeft;
+    const most = this.width - this.room;
+    // Where all events are in view there is nothing to scroll.
+    if (most > 0 && (far < this.left || far > this.left + this.room - 20)) {
+      this.left = between(0, far - this.room / 2, most);
+      this.scroll.scrollLeft = this.left;
       this.drawView();
     } else {
       this.placeCursor();

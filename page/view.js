@@ -2,14 +2,20 @@
 
 import { addressOf } from "./address.js";
 import { drawLegend, setAttribute, setOff, setText } from "./marks.js";
+import { keyOf } from "./glossary.js";
 import { found, page, seed } from "./state.js";
-import { placeOf } from "./lessons.js";
-import { timeline, edgeTable, enabledList, lessonPanel, naivePicture, picture, quiz, siteTable, why } from "./parts.js";
-import { doesWhat, mealsOf } from "./picture.js";
+import { lessonAfter, placeOf, whereOf } from "./lessons.js";
+import {
+  codeView, compareView, timeline, edgeTable, enabledList, lessonPanel, naivePicture, picture, quiz, siteTable, why,
+} from "./parts.js";
+import { doesWhat, isIdle, mealsOf } from "./picture.js";
+import { bestOf, challengeOf, isOwnScore, keepBest, scoreOf, scoreText } from "./challenges.js";
 import { showChecks } from "./checks_shown.js";
 import { linesOfStarving, showStarving } from "./starving.js";
+import { ruleOf } from "./sentences.js";
+import { openWords } from "./words.js";
 
-const START = "all forks are dirty, at the lower ends of their edges; the tokens are at the higher ends";
+const START = "all forks are dirty; of each two neighbours one has the fork, and the other the token to ask for it";
 // With more sites or edges than these a picture has one site in focus.
 const MANY = { sites: 16, edges: 40 };
 // Up to how many letters a line of choices is shown whole, and a line of a log.
@@ -35,11 +41,14 @@ export function show() {
   showLogs(state);
   siteTable.show(state, last, page.selected);
   edgeTable.show(state, last);
+  compareView.show(schedule);
   showTimeline();
   showNaive();
   showLast(state, last);
-  drawLegend(found("legend"), page.isPlain ? hadOf(page.naive.state(), null) : hadOf(state, last));
+  const had = page.isPlain ? hadOf(page.naive.state(), null) : hadOf(state, last);
+  drawLegend(found("legend"), had, (words) => openWords(keyOf(words)));
   showLesson();
+  codeView.show(last);
   const name = page.lesson?.title ?? (schedule.path ? nameOf(schedule.path) : "A plan of your own");
   document.title = `${name} · Dining philosophers`;
   noteAddress();
@@ -51,6 +60,8 @@ export function showKinds() {
   for (const kind of MARKS) found("stage").classList.toggle(kind, kinds.includes(kind));
   document.body.classList.toggle("shows-less", page.kinds !== null);
   document.body.classList.toggle("is-plain", page.isPlain);
+  document.body.classList.toggle("front", page.isFront);
+  found("front").hidden = !page.isFront;
   if (page.schedule) show();
 }
 
@@ -64,6 +75,9 @@ function hadOf({ sites, edges, links }, last) {
     letters,
     phases: new Set(sites.map(doesWhat)),
     forks: new Set(edges.map(({ dirty }) => dirty)),
+    arrows: new Set(edges.map(isIdle)),
+    hasMeals: (page.isPlain ? naivePicture : picture).hasMeals(),
+    hasChosen: page.selected !== null && !page.isPlain,
     hasLast: last !== null && page.kinds === null,
     hasClosed: edges.some((edge) => edge.said?.every((it) => it.close_put)),
     isPlain: page.isPlain,
@@ -73,19 +87,39 @@ function hadOf({ sites, edges, links }, last) {
 // Shows the moment of the lesson, and points at what it speaks of.
 function showLesson() {
   const { schedule, lesson, way } = page;
-  const { list, at } = schedule;
   const moment = lesson?.moments[page.moment];
-  const isOnWay = at < list.length && list.length === way.length && way.every((it, turn) => list[turn] === it);
-  const isThere = moment !== undefined && at === placeOf(moment);
-  lessonPanel.show(lesson, page.moment, isThere || page.walk !== null, isOnWay);
+  const where = moment ? whereOf(schedule, way, placeOf(moment), page.isPlain) : "off";
+  const isThere = where === "there";
+  lessonPanel.show(lesson, page.moment, page.walk ? "there" : where, lessonAfter(page.lessons, lesson));
   const isStory = page.selected === null && !found("predict").checked;
-  const isTold = isOnWay || (isThere && !moment.starve && moment !== lesson.moments.at(-1));
-  document.body.classList.toggle("on-way", isStory && page.kinds !== null && isTold);
-  document.body.classList.toggle("starves", isStory && moment?.starve !== undefined);
+  const isTold = isThere ? !challengeOf(moment) && moment !== lesson.moments.at(-1) : where !== "off";
+  document.body.classList.toggle("on-way", isStory && page.kinds !== null && isTold && !page.isOpen);
+  document.body.classList.toggle("is-open", page.isOpen);
+  document.body.classList.toggle("has-code", found("code-on").checked && !page.isPlain && !page.isFront);
+  found("code").hidden = !document.body.classList.contains("has-code");
+  setAttribute(found("what-if"), "aria-pressed", page.isOpen);
+  document.body.classList.toggle("starves", isStory && challengeOf(moment) !== null);
   const thing = isThere ? moment.point ?? "" : "";
-  picture.point(schedule.state, page.isPlain ? "" : thing, moment?.callout);
-  naivePicture.point(schedule.state, page.isPlain ? thing : "", moment?.callout);
-  showStarving(found("starving"), moment?.starve ? linesOfStarving(schedule, placeOf(moment), moment.starve) : []);
+  const real = picture.point(schedule.state, page.isPlain ? "" : thing, moment?.callout);
+  const pointed = naivePicture.point(schedule.state, page.isPlain ? thing : "", moment?.callout) || real;
+  found("pointed").hidden = pointed === "";
+  setText(found("pointed"), pointed && `${thing.replace(/^(count|site) /, "").replace(/^\w+ /, "")}: ${pointed}`);
+  const begun = moment ? placeOf(moment) : 0;
+  showBest(schedule, begun, challengeOf(moment) && where !== "before" ? moment : null);
+  const isFar = moment?.challenge === "far";
+  showStarving(found("starving"), moment?.starve ? linesOfStarving(schedule, begun, moment.starve, isFar) : []);
+}
+
+// Says the score of a challenge, and keeps it if it is the best.
+function showBest(schedule, begun, moment) {
+  const line = found("best");
+  line.hidden = moment === null;
+  page.record = null;
+  if (!moment) return;
+  const score = scoreOf(schedule, begun, moment);
+  if (isOwnScore(schedule, begun, moment)) keepBest(moment, score);
+  page.record = Math.max(bestOf(moment), page.best ?? 0) || null;
+  setText(line, scoreText(moment, score, bestOf(moment), page.best));
 }
 
 // The name of a plan by its path.
@@ -107,18 +141,25 @@ function isPredicting() {
   return found("predict").checked && !quiz.isChecked && page.schedule.state.enabled.length > 0;
 }
 
+// What differs between two states of a schedule.
+export function keyOfState() {
+  return `${page.schedule.version} ${page.schedule.at}`;
+}
+
 function showLast(state, last) {
   const [words, rule] = found("last").children;
   const { at, left } = page.schedule;
-  if (page.isPlain) {
-    setText(words, page.naive.words);
-    setText(rule, "");
+  const isTouched = page.touched?.key === keyOfState();
+  document.body.classList.toggle("touched", isTouched);
+  if (page.isPlain || isTouched) {
+    setText(words, isTouched ? page.touched.words : page.naive.words);
+    setText(rule, isTouched ? page.touched.why : "");
     return;
   }
   setText(words, at === 0 ? "The start" : last?.words ?? `After event ${at}`);
   const isOver = state.enabled.length === 0;
   const end = `the end: no event is enabled any more${failedText(state)}`;
-  const parts = [isOver ? end : at === 0 ? START : last?.rule ?? ""];
+  const parts = [isOver ? end : at === 0 ? START : last ? ruleOf(last) : ""];
   if (left.count && left.at === at) parts.unshift(leftText(left.count));
   setText(rule, parts.filter(Boolean).join("; "));
   setAttribute(rule, "title", rule.textContent);
@@ -140,6 +181,7 @@ function showEnabled(state) {
   if (asks) quiz.show(state, seed(), `${page.schedule.version} ${page.schedule.at} ${page.schedule.path}`);
   else quiz.hide();
   found("quiz").hidden = !asks;
+  document.body.classList.toggle("predicts", found("predict").checked);
   // What a site waits for, and what it may do, would give the answer away.
   document.body.classList.toggle("asks", isPredicting());
   found("enabled").hidden = isPredicting();
@@ -161,7 +203,8 @@ function showCount(state) {
   found("progress").value = state.events || (isOver ? 1 : 0);
   for (const name of ["back", "reset"]) setOff(found(name), schedule.at === 0);
   setOff(found("undo"), page.past.length === 0);
-  const hasNext = schedule.next("first", 0) !== null;
+  // Where plain forks are shown alone, a step is one of theirs.
+  const hasNext = page.isPlain ? page.naive.go(schedule.at).hasNext() : schedule.next("first", 0) !== null;
   for (const name of ["step", "play"]) setOff(found(name), !hasNext);
   for (const name of ["first", "random"]) setOff(found(name), isOver);
 }
@@ -197,6 +240,8 @@ function showLogs(state) {
   const rest = choicesText(at, list.length);
   setText(found("choices").firstChild, done || "none");
   setText(found("choices").lastChild, rest && `${done ? "," : " then "}${rest}`);
+  // What was found of a run is said as long as it is shown.
+  setText(found("find-note"), page.finding?.version === page.schedule.version ? page.finding.words : "");
 }
 
 // A path as a shell reads it.
@@ -206,27 +251,37 @@ function quoted(path) {
 
 function showTimeline() {
   const { schedule } = page;
-  timeline.draw(schedule, page.other);
+  const end = endOfTimeline();
+  timeline.draw(schedule, page.other, end);
   timeline.show(schedule.at);
   setText(found("timeline-name"), schedule.isOfThreads ? "What the threads did" : "The run so far");
   setText(found("timeline-note"), timelineNote());
   const slider = found("timeline-scroll");
-  setAttribute(slider, "aria-valuemax", schedule.list.length);
+  setAttribute(slider, "aria-valuemax", end);
   setAttribute(slider, "aria-valuenow", schedule.at);
-  setAttribute(slider, "aria-valuetext", `event ${schedule.at} of ${schedule.list.length}`);
+  setAttribute(slider, "aria-valuetext", `event ${schedule.at} of ${end}`);
+}
+
+// Up to which event the timeline goes. A lesson does not show what is still to happen.
+function endOfTimeline() {
+  const { list, seen } = page.schedule;
+  return page.lesson ? seen : list.length;
 }
 
 // What the event was that the cursor is behind.
 function timelineNote() {
-  const { list, at, isOfThreads, state } = page.schedule;
-  if (list.length === 0) return "bar: a meal; ochre line: a wait; arrow: a fork on its way";
-  const count = `${list.length.toLocaleString("en")} ${list.length === 1 ? "event" : "events"}`;
+  const { at, isOfThreads, state } = page.schedule;
+  const end = endOfTimeline();
+  if (end === 0 && !page.other) return "bar: a meal; ochre line: a wait; arrow: a fork on its way";
+  const left = page.other ? "; grey: the events that you left, and a tap has them back" : "";
+  const count = `${end.toLocaleString("en")} ${end === 1 ? "event" : "events"}${left}`;
   if (at === 0) return isOfThreads ? `${count}, in one order that fits` : count;
   return `${at.toLocaleString("en")} of ${count}: ${state.last?.words ?? ""}`;
 }
 
 function showNaive() {
   const isBeside = found("naive").checked;
+  document.body.classList.toggle("is-beside", isBeside && !page.isPlain);
   found("naive-side").hidden = !isBeside && !page.isPlain;
   found("real-side").hidden = page.isPlain;
   for (const name of ["real-name", "real-note"]) found(name).hidden = !isBeside;
@@ -269,6 +324,14 @@ export function openPicture() {
   naivePicture.open(page.naive.state(), page.room, page.focus);
 }
 
+// Whether the schedule is that of the moment, with the events that follow in the lesson.
+function isAtMoment() {
+  const { schedule: { plan, list, at }, lesson, way } = page;
+  const moment = lesson?.moments[page.moment];
+  const isThere = moment?.text === plan && at === placeOf(moment) && list.length === way.length;
+  return isThere && way.every((it, turn) => list[turn] === it);
+}
+
 let noting = null;
 
 export function noteAddress() {
@@ -282,14 +345,18 @@ export function noteAddress() {
 export async function writeAddress() {
   const { path, plan, list, at, isOfThreads } = page.schedule;
   const how = { by: found("pick").value, seed: seed(), speed: Number(found("speed").value) };
-  const { lesson, moment } = page;
-  const said = await addressOf({ path, plan, list, at, isOfThreads, ...how, lesson, moment });
+  const { lesson, moment, isTurned, isFront, record: best } = page;
+  const shown = { path, plan, list, at, isOfThreads, ...how, lesson, moment, best, isAtMoment: isAtMoment() };
+  const said = isFront ? "" : await addressOf(shown);
   const address = location.href.replace(/#.*/s, "") + said;
+  page.isTurned = false;
   try {
-    history.replaceState(null, "", address);
+    // The way back of the browser leads to the moment or the plan before, and not through each event.
+    if (isTurned && address !== location.href) history.pushState(null, "", address);
+    else history.replaceState(null, "", address);
   } catch {
     // A page within another may have no address of its own.
   }
-  found("too-long").hidden = address.includes("#");
+  found("too-long").hidden = address.includes("#") || isFront;
   return address;
 }

@@ -2,8 +2,11 @@
 // not the rest.
 
 import { textElement } from "./marks.js";
-import { doesWhat, mealsOf } from "./picture.js";
-import { otherEnd, waitsOf, whyNot } from "./sentences.js";
+import { doesWhat, isIdle, mealsOf } from "./picture.js";
+import { otherEnd, ruleOf, waitsOf, whyNot, wordsAhead } from "./sentences.js";
+
+// What shows all of one site: in the picture a tap on a site does what the site may do.
+const HOW = "The name of a site in the table of sites shows all that it holds and may do.";
 
 function listOf(items) {
   const list = document.createElement("ul");
@@ -49,9 +52,12 @@ function holdings(state, site) {
 function precedenceOf(state, site) {
   const own = state.edges.filter((edge) => edge.ends.includes(site) && edge.preferred !== undefined);
   const names = (edges) => edges.map((edge) => state.sites[otherEnd(edge, site)].name).join(", ");
-  const before = names(own.filter((edge) => edge.preferred !== site));
+  const first = own.filter((edge) => edge.preferred !== site);
+  const before = names(first.filter((edge) => !isIdle(edge)));
+  const idle = names(first.filter(isIdle));
   const after = names(own.filter((edge) => edge.preferred === site));
-  return [before ? `after ${before}` : "", after ? `before ${after}` : ""].filter(Boolean).join("; ");
+  const parts = [before && `after ${before}`, idle && `after ${idle} once asked`, after && `before ${after}`];
+  return parts.filter(Boolean).join("; ");
 }
 
 export class Why {
@@ -76,7 +82,7 @@ export class Why {
     this.heading.textContent = "Who waits, and for what";
     const lines = waitLines(state, sites);
     const waits = lines.length ? listOf(lines) : textElement("p", "No site is hungry.");
-    this.box.replaceChildren(waits, textElement("p", "Click a site for all that it holds and may do.", "note"));
+    this.box.replaceChildren(waits, textElement("p", HOW, "note"));
   }
 
   showSite(state, number) {
@@ -105,10 +111,10 @@ export class Why {
 
   eventItem(event) {
     const item = document.createElement("li");
-    const button = textElement("button", event.words, "inline");
+    const button = textElement("button", wordsAhead(event), "inline");
     button.type = "button";
     button.addEventListener("click", (it) => { if (it.detail <= 1) this.choose(event.number); });
-    item.append(button, ` ${event.rule}`);
+    item.append(button, ` ${ruleOf(event)}`);
     return item;
   }
 }

@@ -91,8 +91,8 @@ class Rules {
     Object.assign(this, { plan: null, done: [] });
   }
 
-  // Does the choices of the list up to this place: from where it is, or from the start if it has done others. Returns the
-  // answer if that is refused, and else null.
+  // Does the choices of the list up to this place: from where it is, or from the start if it has done others. Returns
+  // the answer if that is refused, and else null.
   go(list, place) {
     if (this.done.length > place || this.done.some((choice, n) => choice !== list[n])) {
       const answer = this.call("dine_restart", this.handle);

@@ -10,8 +10,8 @@ import sys
 import time
 
 import pytest
-from calls import HOW, shown, trace
-from trying import HOME, Answer, answer_of, first_difference, program_of, text_of
+from calls import HOW, called, shown, trace
+from trying import HOME, Answer, answer_of, first_difference, text_of
 
 # Where Debian has its modules, for a Python that is not Debian's own and has no selenium.
 sys.path.append("/usr/lib/python3/dist-packages")
@@ -185,5 +185,5 @@ class Page:
 
     def is_said_by_shell(self):
         """Compares what the page says at the end with what its own line for a shell prints."""
-        line = self.text("#line").replace("./dine", program_of("dine_cli", **HOW), 1)
+        line = self.text("#line").replace("./dine", called("dine_cli"), 1)
         assert answer_of(["-c", line], "sh", cwd=HOME) == Answer(0, f"{self.text('#logs')}\n", "")

@@ -4,6 +4,7 @@ import functools
 import json
 import os
 import re
+import shutil
 import signal
 import subprocess
 import time
@@ -17,6 +18,8 @@ TWO_SITES = 'version = 1\n[[site]]\nname = "a"\n[[site]]\nname = "b"\n'
 REFUSED = "dine: plan refused: "
 # How the programs are built: pytest --unproved sets it.
 HOW = {"is_unproved": False}
+# Whether the kit is here, which builds them. Without it the tests call those that come with the repository.
+HAS_KIT = bool(shutil.which("rt"))
 
 
 @functools.cache
@@ -29,14 +32,27 @@ def fault_of_build(crate, is_unproved=False):
     return built.error if built.status else ""
 
 
+@functools.cache
+def called(crate):
+    """Returns the path of the program of a crate that the tests call. Skips the test if it can't be had here."""
+    if HAS_KIT:
+        return program_of(crate, **HOW)
+    import pytest  # Only the tests have it: bench/library calls this module too.
+    try:
+        found = crate in fresh.COMMITTED and fresh.committed(crate)
+    except fresh.Stale as fault:
+        pytest.skip(str(fault))
+    return found or pytest.skip(f"there is no kit to build {crate}")
+
+
 def dine(*words, **how):
     """Calls dine with arguments, and returns its status and output. `how` goes to subprocess.run, such as an input."""
-    return answer_of(words, program_of("dine_cli", **HOW), **how)
+    return answer_of(words, called("dine_cli"), **how)
 
 
 def trace(*words, **how):
     """Calls dine_trace in the same way."""
-    return answer_of(words, program_of("dine_trace", **HOW), **how)
+    return answer_of(words, called("dine_trace"), **how)
 
 
 def printed(*words, given):

@@ -27,11 +27,19 @@ def pytest_configure(config):
         config.option.loadgroup = True
 
 
+def pytest_collection_modifyitems(items):
+    for it in items:
+        if not calls.HAS_KIT and it.get_closest_marker("kit"):
+            it.add_marker(pytest.mark.skip(reason="rt of the Rattle kit is not on the path"))
+
+
 @pytest.fixture(autouse=True)
 def programs(request):
-    """Builds the programs that the mark `built` names."""
+    """Builds the programs that the mark `built` names. Where there is no kit, those of programs/ are called."""
     for crate in [it for mark in request.node.iter_markers("built") for it in mark.args]:
-        if fault := calls.fault_of_build(crate, **calls.HOW):
+        if not calls.HAS_KIT:
+            calls.called(crate)
+        elif fault := calls.fault_of_build(crate, **calls.HOW):
             pytest.fail(fault, pytrace=False)
 
 

@@ -2,9 +2,9 @@
 and misused handles change nothing, and the examples over MPI and with processes that are killed find an order of all
 events.
 
-All but the first is done twice, each time in a copy of bindings/ and examples/: with the proved library, which `rt lib`
-makes, and as a user without the kit, where neither rt nor the folder of the kit can be seen. With pytest -n 2 each
-way is tried by one process."""
+All but the first is done twice, each time in a copy of bindings/, examples/ and the licences: with the proved library,
+which `rt lib` makes, and as a user without the kit, where neither rt nor the folder of the kit can be seen. With
+pytest -n 2 each way is tried by one process."""
 import functools
 import os
 import random
@@ -67,7 +67,7 @@ def needs(*tools):
 
 
 class Place:
-    """A copy of bindings/ and examples/, the library in it, and commands that are run there."""
+    """A copy of bindings/, examples/ and the licences, the library in it, and commands that are run there."""
 
     def __init__(self, folder, is_hidden):
         self.folder, self.before = folder, HIDDEN if is_hidden and KIT else []
@@ -76,6 +76,8 @@ class Place:
         for name in ("bindings", "examples"):
             shutil.copytree(f"{HOME}/{name}", f"{folder}/{name}", ignore=shutil.ignore_patterns(
                 "lib", "target", "libdine.so", "__pycache__"))
+        for name in ("LICENSE-APACHE", "LICENSE-MIT"):
+            shutil.copy(f"{HOME}/{name}", folder)
 
     def ran(self, *words, at=".", **more):
         """Runs a command in a folder, and returns its status and output."""
@@ -130,12 +132,33 @@ def test_c(place):
     """The programs in C: the last one is refused memory by its limit."""
     assert place.output(place.program("bindings/c/pair.c")).endswith("\nevents 22 of 22\n")
     assert place.output(place.program("bindings/c/misuse.c"))
+    assert place.output(place.program("bindings/c/statuses.c")) == "0 wrong\n"
     assert place.output("sh", "-c", 'ulimit -v 120000 && exec "$0"', place.program("bindings/c/memory.c"))
+
+
+def test_rounds(place):
+    """A million handles are opened and closed in 400 MB: no call is out of memory while there is memory, and after
+    memory was used up by small worlds and all were closed, the largest plan is read."""
+    rounds = place.program("bindings/c/rounds.c")
+    assert place.output("sh", "-c", 'ulimit -v 400000 && exec "$0" 1000000', rounds).endswith("\n1100000 rounds\n")
+
+
+def test_names_of_the_library(place):
+    """libdine.so exports the calls of dine.h, and no other name."""
+    needs("nm")
+    names = place.output("nm", "-D", "--defined-only", "bindings/lib/libdine.so").split("\n")
+    there = {line.split()[-1] for line in names if line}
+    calls = {name for name, _ in exports_c.exports()}
+    assert {it for it in there if not it.startswith("dine_raw_")} == {f"dine_{name}" for name in calls}
+    assert there - {f"dine_{name}" for name in calls} <= {f"dine_raw_{name}" for name in calls}
 
 
 def test_rust(place):
     needs("cargo")
-    assert place.output("cargo", "test", "-q", "--offline", at="bindings/rust").count("test result: ok.") == 3
+    """The tests of the crate, a file each, and the examples of its documentation."""
+    files = len(list(Path(HOME, "bindings/rust/tests").glob("*.rs")))
+    printed = place.output("cargo", "test", "-q", "--offline", at="bindings/rust")
+    assert printed.count("test result: ok.") == files + 2
 
 
 def test_python(place):
@@ -148,11 +171,53 @@ def test_python(place):
     assert " passed" in place.output(*tests, env={"PYTHONPATH": site})
 
 
+def test_packages(place):
+    """What cargo and pip make of the two packages works in an empty folder, where nothing else of the repository is."""
+    needs("cargo")
+    pytest.importorskip("pip")
+    crate, sdist = f"{place.folder}/target/package/dine-0.1.0.crate", f"{place.folder}/alone/dine-0.1.0.tar.gz"
+    place.output("bindings/package", "-q", "--offline", "--no-verify")
+    os.makedirs(f"{place.folder}/alone/python")
+    place.output("tar", "xf", crate, "-C", "alone")
+    files = os.listdir(f"{place.folder}/alone/dine-0.1.0")
+    assert {"LICENSE-MIT", "LICENSE-APACHE", "README.md", "c", "build"} <= set(files)
+    here = {"at": "alone/dine-0.1.0", "env": {"CARGO_TARGET_DIR": f"{place.folder}/alone/target"}}
+    assert place.output("cargo", "run", "-q", "--offline", "--example", "bank", **here).startswith("bob ate 8000 times")
+    makes = f"import build_dine; print(build_dine.build_sdist({place.folder + '/alone'!r}))"
+    place.output(sys.executable, "-c", makes, at="bindings/python")
+    place.output("tar", "xf", sdist, "-C", "alone/python")
+    place.output(sys.executable, "-m", "pip", "install", "-q", "--no-index", "--no-build-isolation", "--target",
+                 f"{place.folder}/alone/site", "alone/python/dine-0.1.0")
+    assert any(it.startswith("dine-0.1.0") for it in os.listdir(f"{place.folder}/alone/site"))
+    readme = [sys.executable, "-m", "doctest", f"{place.folder}/bindings/python/README.md"]
+    assert place.output(*readme, env={"PYTHONPATH": f"{place.folder}/alone/site"}) == ""
+
+
+def test_lints(place):
+    """The crate has no warning of clippy or rustdoc; the types of the Python package and of its examples fit."""
+    needs("cargo")
+    if shutil.which("cargo-clippy"):
+        place.rust("clippy", "--all-targets", "--", "-D", "warnings")
+    place.rust("doc", "--no-deps")
+    if answer_of(["-m", "mypy", "--version"], sys.executable).status == 0:
+        words = [sys.executable, "-m", "mypy", "--strict", "dine", "examples"]
+        assert "no issues found" in place.output(*words, at="bindings/python")
+
+
 def test_page(place):
     """What docs/BINDINGS.md shows is so."""
-    rust, watch, c, *_ = blocks("docs/BINDINGS.md")
-    program = text_of("bindings/rust/examples/bank.rs").partition("\n")[2]
-    assert rust == f"{program}\n{place.rust('run', '--example', 'bank')}"
+    shown = blocks("docs/BINDINGS.md")
+    page = [line.removeprefix("    ") for line in text_of("docs/BINDINGS.md").splitlines() if line]
+    for path, heads in (("bindings/rust/examples/scheduler.rs", 1), ("bindings/python/examples/scheduler.py", 0)):
+        program = [line for line in text_of(path).splitlines()[heads:] if line]
+        at = page.index(program[1]) - 1
+        assert page[at:at + len(program)] == program
+    tasks = "5000 tasks, 10000 uses, half of them done within "
+    assert place.rust("run", "--release", "--example", "scheduler").startswith(tasks)
+    assert place.output(sys.executable, "bindings/python/examples/scheduler.py").startswith(tasks)
+    assert place.rust("run", "--example", "bank") == "bob ate 8000 times, the sum is 400\n"
+    watch = next(it for it in shown if "impl dine::Watch" in it)
+    c = next(it for it in shown if it.startswith("dine_handle plan"))
     assert watch in text_of("bindings/rust/examples/progress.rs")
     assert " meals ended\n" in place.rust("run", "--example", "progress")
     plan = 'version = 1\\n[[site]]\\nname = \\"a\\"\\njobs = []\\n'
@@ -193,7 +258,7 @@ def replays(plan):
 @pytest.mark.parametrize("language", ["C", "Rust", "Python"])
 def test_replays(place, language):
     """Each language prints what the proved program prints."""
-    words = [sys.executable, "bindings/python/replay.py"]
+    words = [sys.executable, "bindings/python/examples/replay.py"]
     if language == "C":
         words = [place.program("bindings/c/replay.c")]
     if language == "Rust":
@@ -213,7 +278,7 @@ def test_restart(place):
 
 
 def test_two_processes(place):
-    place.output(sys.executable, "bindings/python/two_processes.py")
+    place.output(sys.executable, "bindings/python/examples/two_processes.py")
 
 
 @pytest.fixture(params=["C", "Python"])

@@ -1,12 +1,14 @@
 """Tries how the page is laid out, for whom it is, and what it says of plans."""
 import re
+import time
+import urllib.parse
 
 import pytest
 from browsing import ASKED, RING
 from graphs import graph_of, plan_of
 from trying import text_of
 
-STAR = "plans/star_of_locks.toml"
+STAR, STORY = "plans/star_of_locks.toml", "lessons/dining_without_a_waiter.toml"
 HEIGHT = "one('#picture').clientHeight"
 # What has to have a name for who does not see the page, besides all that can have the focus.
 NAMED = ("table", "progressbar", "ProgressIndicator", "img", "image", "slider", "region")
@@ -38,9 +40,146 @@ def test_marks_of_star(page, width, height):
         page.do(*"n" * (kind == "token"))
 
 
+@pytest.mark.parametrize("action", ["", "pan-x"])
+def test_swipe_on_the_timeline(page, action):
+    """A finger that goes up on the chart of the run scrolls the page. It would not if the chart took only fingers that
+    go across."""
+    page.look(390, 844)
+    page.cdp("Emulation.setTouchEmulationEnabled", enabled=True)
+    page.open(f"{RING}&choices={ASKED}")
+    page.js("(one('#timeline-scroll').style.touchAction = arguments[0], null)", action)
+    page.js("(one('#timeline-scroll').scrollIntoView({ block: 'center' }), null)")
+    page.wait("drawn")
+    begun, (x, y) = page.js("scrollY"), page.js("""(() => {
+      const { left, top } = one("#timeline-scroll").getBoundingClientRect();
+      return [left + 100, top + 60];
+    })()""")
+    page.cdp("Input.dispatchTouchEvent", type="touchStart", touchPoints=[{"x": x, "y": y}])
+    for far in range(15, 151, 15):
+        page.cdp("Input.dispatchTouchEvent", type="touchMove", touchPoints=[{"x": x, "y": y - far}])
+    page.cdp("Input.dispatchTouchEvent", type="touchEnd", touchPoints=[])
+    page.wait("drawn")
+    page.cdp("Emulation.setTouchEmulationEnabled", enabled=False)
+    assert (page.js("scrollY") > begun + 80) == (action == "") and page.event() == 10
+
+
+def test_small_windows_show_all(page):
+    """On a telephone the algorithm comes into view once it is wanted, and a few events and edges are shown whole."""
+    page.look(390, 844)
+    page.open(RING)
+    assert page.each("#enabled, .tall", "it.scrollHeight - it.clientHeight") == [0] * 3
+    page.do("#code-on")
+    page.wait("drawn")
+    assert page.unseen("#code-lines") == []
+    # What the legend of the chart says is there whole.
+    assert page.each("#timeline-note", "it.scrollWidth - it.clientWidth") == [0]
+
+
+def test_names_of_small_sites_are_upright(page):
+    page.look(390, 844)
+    page.open("lesson=lessons/challenges.toml&moment=3")
+    assert page.texts("#picture .beside") == [*"abcdefgh"]
+    assert page.each("#picture .beside", "it.getAttribute('transform')") == [None] * 8
+
+
+@pytest.mark.parametrize("address", [
+    "lesson=lessons/from_events_to_threads.toml&moment=1", f"{RING}&choices=4,4"])
+@pytest.mark.parametrize("width", [390, 1280])
+def test_token_on_its_way(page, width, address):
+    """A token on its way is about in the middle of its edge, and over no fork."""
+    page.look(width, 844)
+    page.open(address)
+    token, fork, low, high = page.js("""(() => {
+      const lanes = [...one("#picture").children[1].children];
+      const edge = lanes.findIndex((it) => it.querySelector(".lane"));
+      const points = ["token", "fork"].map((kind) => markAt(all(`#picture .${kind}`)[edge]));
+      const line = all("#picture .edge")[edge].querySelector(".line");
+      const endOf = (end) => ({ x: line[`x${end}`].baseVal.value, y: line[`y${end}`].baseVal.value });
+      return [...points, endOf(1), endOf(2)];
+    })()""")
+    far = [((it["x"] - token["x"]) ** 2 + (it["y"] - token["y"]) ** 2) ** 0.5 for it in (low, high, fork)]
+    assert 0.6 < far[0] / far[1] < 1.67 and far[2] > 8
+
+
+# The modes of the page, each with its address and with what is done there.
+HUNGRY = f"{RING}&choices={ASKED}"
+GRID = f"text={urllib.parse.quote(plan_of([1] * 64, graph_of('grid:8x8')[1]).decode())}"
+MODES = {
+    "front": ("", []), "free": (HUNGRY, []), "question": (f"lesson={STORY}&moment=16", []),
+    "plain": (f"lesson={STORY}&moment=3", []), "what if": (f"lesson={STORY}&moment=16", ["h"]),
+    "challenge": ("lesson=lessons/challenges.toml&moment=1", []), "large": (HUNGRY, ["v"]),
+    "large challenge": ("lesson=lessons/challenges.toml&moment=1", ["v"]), "ask me": (HUNGRY, ["q"]),
+    "asked": (HUNGRY, ["q", "#quiz button"]), "algorithm": (HUNGRY, ["e"]), "grid": (GRID, ["#focus"]),
+}
+SIZES = [(320, 640), (390, 844), (844, 390), (768, 1024), (1280, 800), (1920, 1080)]
+
+
+@pytest.mark.slow
+@pytest.mark.parametrize(("width", "height"), SIZES)
+def test_sizes(page, width, height):
+    """In each mode no mark covers a text, no control is cut off, no part lies over another, and nothing scrolls
+    sideways."""
+    page.look(width, height, motion="reduce")
+    found = {}
+    for mode, (address, done) in MODES.items():
+        page.open(address)
+        page.do(*done)
+        wide = max(0, page.js("document.documentElement.scrollWidth") - width)
+        found[mode] = [wide, page.cutOff(), page.coveredTexts(), page.overlaps()]
+    assert found == {mode: [0, [], [], []] for mode in MODES}
+
+
+def test_ask_me_in_one_window(page):
+    """After an answer is checked the list of what may happen has space, and so has the score."""
+    page.open(HUNGRY)
+    page.do("q", "#quiz button")
+    assert page.each("#enabled button", "it.offsetHeight > 30") == [True] * page.count("#enabled button")
+    page.do("#enabled li:last-child button")
+    assert page.event() == 11
+
+
+@pytest.mark.parametrize(("gone", "said"), [
+    ("DecompressionStream", "This browser has no DecompressionStream"),
+    ("WebAssembly", "This browser has no WebAssembly")])
+def test_browser_that_lacks_something(page, gone, said):
+    """What is missing is said in a line."""
+    source = f"delete globalThis.{gone}"
+    script = page.cdp("Page.addScriptToEvaluateOnNewDocument", source=source)["identifier"]
+    page.driver.get("about:blank")
+    page.driver.get(page.address)
+    page.until("one('#fault').textContent !== ''", 20)
+    page.cdp("Page.removeScriptToEvaluateOnNewDocument", identifier=script)
+    assert page.text("#fault").startswith(said) and page.unseen("#fault") == []
+
+
+def test_page_without_scripts(page):
+    """Without JavaScript a line says so, and in a browser that is too old another."""
+    page.cdp("Emulation.setScriptExecutionDisabled", value=True)
+    page.driver.get("about:blank")
+    page.driver.get(page.address)
+    page.cdp("Emulation.setScriptExecutionDisabled", value=False)
+    time.sleep(3.5)
+    assert "needs JavaScript" in page.text("noscript")
+    assert page.unseen("#needs") == [] and "too old" in page.text("#needs")
+
+
+def test_way_back(page):
+    """The way back of the browser leads to the moment before, and not through the events of one."""
+    page.open(f"lesson={STORY}&moment=5")
+    page.hash("moment=5")
+    page.do("#next")
+    page.hash("moment=6")
+    page.do("#step", "#step")
+    time.sleep(0.5)
+    page.driver.back()
+    page.until("text('#moment-count') === 'Moment 5 of 22'", 10)
+    page.driver.forward()
+    page.until("text('#moment-count').endsWith('oment 6 of 22')", 10)
+
+
 def test_many_sites(page):
     """Above 16 sites one site and its neighbours are shown, and a click on another site shows that one."""
-    page.open()
+    page.open(RING)
     page.write_plan(plan_of([1] * 20, graph_of("ring:20")[1]).decode())
     assert (page.count("#picture .site"), page.count("#enabled button")) == (3, 3)
     page.do("#picture .site[data-site='1']")
@@ -55,8 +194,9 @@ def test_plan_that_is_refused(page):
     before = page.said()
     plan = 'version = 1\n\n[[site]]\nname = "a"\n\n[[site]]\nname = "b"\n\n[[edge]]\nends = ["a", "cup"]\n'
     page.write_plan(plan)
-    assert page.text("#plan-fault") == "An end of this edge is not the name of a site. Line 9."
-    assert page.each("#text", "it.value.slice(it.selectionStart, it.selectionEnd)") == ['[[edge]]\nends = ["a", "cup"]']
+    assert page.text("#plan-fault") == (
+        'An end of this edge is not the name of a site. Line 10, "cup": there is "a", "b".')
+    assert page.each("#text", "it.value.slice(it.selectionStart, it.selectionEnd)") == ['"cup"']
     page.do("Escape")
     assert page.differs(before) == []
     page.do("o")
@@ -96,4 +236,6 @@ def test_names_for_screen_readers(page):
         has_focus = any(it["name"] == "focusable" and it["value"]["value"] for it in node.get("properties", []))
         if not node.get("ignored") and role not in ("RootWebArea", "document") and (has_focus or role in NAMED):
             unnamed += [role] * (not name)
-    assert unnamed == [] and "e hungry, 0 of 2 meals" in page.one("#picture").get_attribute("aria-label")
+    picture = page.one("#picture").get_attribute("aria-label")
+    assert unnamed == [] and "e hungry, 0 of 2 meals" in picture
+    assert "d and e: dirty fork at d, token on its way to d, e goes first" in picture

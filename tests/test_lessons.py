@@ -14,6 +14,8 @@ LESSONS = {it: tomllib.loads(text_of(it))["moment"] for it in paths("lessons/*.t
 QUESTIONS = [(path, place) for path in LESSONS for place, it in enumerate(LESSONS[path]) if "question" in it]
 # How many events are done at a moment, if it does not say that.
 for it in itertools.chain(*LESSONS.values()):
+    if it.get("recorded"):
+        it["choices"] = catalog.recorded(it["plan"])
     it.setdefault("at", len(re.findall("[0-9]+", it.get("choices", ""))))
 
 
@@ -22,10 +24,12 @@ def is_shown(page, moment):
     note, kinds, seen = " ".join(moment["note"].split()), moment["show"], page.kinds()
     assert page.moment()[1:] == [moment["title"], moment["at"]]
     assert len(note.split()) <= 45 and " ".join(page.texts("#moment-note p")) == note.replace("*", "")
-    assert ",".join(map(str, page.choices())) == moment.get("choices", "")
+    assert page.choices() == [int(it) for it in re.findall("[0-9]+", moment.get("choices", ""))][:moment["at"]]
     assert set(seen) <= set(kinds) if moment.get("naive") == "alone" else seen == kinds
     assert page.named() == kinds
-    assert " ".join(page.texts(".side-by:not([hidden]) .callout text")) == moment.get("callout", "")
+    # Where there is no space for it in the picture, it is below.
+    pointed = page.text("#pointed").partition(": ")[2]
+    assert (" ".join(page.texts(".side-by:not([hidden]) .callout text")) or pointed) == moment.get("callout", "")
     assert page.misplaced() == ""
 
 
@@ -36,18 +40,59 @@ def test_lesson(page, path, width, height):
     """A lesson is a story of short moments, gone through by button and keys. The picture is in view together with the
     note, its question and the way on."""
     page.look(width, height, motion="reduce")
-    page.open()
+    page.open(RING)
     page.do("#lessons", page.text(f'#lessons option[value="{path}"]'), "Enter")
-    assert 18 <= len(LESSONS[path]) < 24
+    assert 3 <= len(LESSONS[path]) < 24
     for place, moment in enumerate(LESSONS[path]):
         is_shown(page, moment)
         picture = "#naive-picture" if moment.get("naive") == "alone" else "#picture"
         parts = [picture, "#legend", "#moment-note", "#next"] + ["#question button"] * ("question" in moment)
         assert page.unseen(*parts) == [], moment["title"]
-        page.do("PageDown" if place % 2 else "#next")
+        # A question that is not answered holds the first one up.
+        page.do(*["PageDown" if place % 2 else "#next"] * (2 if "question" in moment else 1))
     page.do("PageUp")
     assert page.text("#moment-title") == LESSONS[path][-2]["title"]
     page.hash(f"lesson={path}&moment={len(LESSONS[path]) - 1}".replace("/", "."))
+
+
+# What a student is asked after the lessons, with the moments that answer it, and words of the answer there.
+ANSWERS = {
+    "Five take the left fork first. Who waits for whom?": {
+        "Stuck for ever": "a for e, e for d, d for c, c for b, and b for a"},
+    "What does the holder of a dirty fork do when asked, thinking, hungry or eating?": {
+        "Washed and handed over": "hungry or not", "Eat, and it is dirty again": "after this meal"},
+    "The same for a clean fork?": {"A clean fork says: wait": "Wait until I have eaten"},
+    "Where can the token be, and what does each place mean?": {
+        "A token to ask with": "with whoever lacks the fork",
+        "A held token remembers": "On its way, the token is a request",
+        "Washed and handed over": "The token stays with a"},
+    "Who goes first if the fork is clean, dirty, on its way?": {
+        "An arrow shows whose turn it is": "If the fork is clean, that is who has it, or gets it"},
+    "Which events turn arrows, and why does none make a ring?": {
+        "What turns an arrow?": "Only a meal can", "Never a ring": "none leaves it. So no ring goes through e"},
+    "Why can't the table be stuck without a ring?": {
+        "Can everybody be stuck?": "nobody eats, since a meal can end", "Who is stuck lacks a clean fork": "is clean",
+        "Walk to whom you wait for": "Without a ring this walk ends"},
+    "e has four before it and two dirty forks that nobody asked for. May it eat?": {
+        "An arrow counts once one asks": "An arrow counts once the one before you has asked"},
+    "Why does a hungry site eat at last, and what does that need?": {
+        "Nobody gets before you": "nobody new gets before you", "One fewer before each": "leaves with its next meal",
+        "What this needs": "nobody eats for ever"},
+    "How often may a neighbour still eat before e, and one two seats away?": {
+        "How often may others go first?": "d once, c any number of times"},
+}
+
+
+@pytest.mark.early
+@pytest.mark.parametrize("question", ANSWERS)
+def test_ten_questions(question):
+    """Each question can be answered from moments of the lessons, which have the words of the answer: in the note, or in
+    what is said of the right answer to their own question."""
+    moments = {it["title"]: it for it in itertools.chain(*LESSONS.values())}
+    for title, words in ANSWERS[question].items():
+        it = moments[title]
+        right = it["options"][it["answer"] - 1] if "answer" in it else ""
+        assert words in " ".join(f"{it['note']} {right} {it.get('because', '')}".split()), title
 
 
 @pytest.mark.parametrize(("path", "place"), QUESTIONS)
@@ -76,10 +121,67 @@ def test_question(page, path, place):
     is_shown(page, following)
 
 
+def test_way_on_and_home(page):
+    """The last moment of a lesson offers the next one, the last of all leads to the challenges, and the title leads to
+    the first page."""
+    page.look(390, 844, motion="reduce")
+    paths = ["dining_without_a_waiter", "why_nobody_starves", "from_events_to_threads", "challenges"]
+    for path, following in itertools.pairwise(paths):
+        path, following = (f"lessons/{it}.toml" for it in (path, following))
+        page.open(f"lesson={path}&moment={len(LESSONS[path]) - 1}")
+        assert page.unseen("#next-lesson") == ["#next-lesson"]
+        page.do("PageDown", "PageDown")
+        title = tomllib.loads(text_of(following))["title"]
+        kind = "Next" if title == "Challenges" else "Next lesson"
+        assert page.text("#next-lesson") == f"{kind}: {title}"
+        page.do("#next-lesson")
+        assert page.value("#lessons") == following and page.text("#moment-title") == LESSONS[following][0]["title"]
+    page.do("PageDown", "PageDown")
+    assert page.unseen("#next-lesson") == ["#next-lesson"]
+    page.do("#leave", "#home")
+    assert page.unseen("#begin") == [] and page.count("#picture .site") == 5
+    page.js("(history.back(), null)")
+    page.until("one('#front').hidden")
+
+
+def test_ways_of_a_moment(page):
+    """One tap leads from a moment to the four ways, with the site that stops there."""
+    page.look(390, 844, motion="reduce")
+    path = "lessons/why_nobody_starves.toml"
+    asking = [place for place, it in enumerate(LESSONS[path]) if "ways" in it]
+    for place in asking:
+        page.open(f"lesson={path}&moment={place + 1}")
+        assert page.count("#compare .way") == 0
+        page.do("#ways-of-moment")
+        assert page.unseen("#compare-name") == [] and page.count("#compare .way") == 4
+        stopped = [it.startswith("c has stopped") for it in page.texts("#compare .end")]
+        assert stopped == [False] + [LESSONS[path][place]["ways"] == "c after"] * 3
+    assert len(asking) == 2
+    page.do("PageUp", "PageUp")
+    assert page.unseen("#ways-of-moment") == ["#ways-of-moment"]
+
+
+def test_scores_are_of_ones_own_events(page):
+    """A run that threads did, or one that plays by itself, is no record. Events that are picked are."""
+    page.open("lesson=lessons/from_events_to_threads.toml&moment=5")
+    page.do("End", "#lessons", "Challenges", "Enter")
+    assert page.text("#moment-title") == "Starve e" and page.text("#best") == "Your score: 0 events before e eats."
+    page.do("#enabled button", "#enabled button")
+    assert "Best in this browser: 2." in page.text("#best")
+    page.hash(".")
+    # The same as an address has it, which may be another's.
+    page.js("(localStorage.clear(), location.reload(), null)")
+    page.until("one('#moment-title')?.textContent === 'Starve e'")
+    page.wait()
+    assert "2 events" in page.text("#best") and "Best" not in page.text("#best")
+    page.do("#enabled button")
+    assert "3 events" in page.text("#best") and "Best" not in page.text("#best")
+
+
 def test_lesson_on_a_telephone(page):
     """A lesson with large letters fits, and a swipe is enough."""
     page.look(390, 844, motion="reduce")
-    page.open(f"lesson={STORY}&moment=21")
+    page.open(f"lesson={STORY}&moment=22")
     page.js("document.documentElement.style.fontSize = '32px'")
     assert page.js("document.documentElement.scrollWidth") <= 390
     page.js("document.documentElement.style.fontSize = ''")
@@ -89,12 +191,14 @@ def test_lesson_on_a_telephone(page):
         for kind, points in (("Start", [{"x": x, "y": y}]), ("Move", [{"x": x + far, "y": y + 4}]), ("End", [])):
             page.cdp("Input.dispatchTouchEvent", type=f"touch{kind}", touchPoints=points)
         page.wait()
-    assert page.text("#moment-count") == "Moment 20 of 21"
+    assert page.text("#moment-count") == "Moment 21 of 22"
 
 
 def test_motion_between_moments(page):
     """Next plays the events up to the next moment, in which a letter flies along its edge. Once more it skips them."""
     page.open(f"lesson={STORY}&moment=8")
+    page.do("#next")
+    assert "once more" in page.text("#question output") and page.event() == 4
     page.one("#next").click()
     events, places = zip(*page.wait("flight"))
     between = [it for it in places if min(places) + 10 < it < max(places) - 10]

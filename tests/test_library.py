@@ -37,6 +37,7 @@ def test_build_of_a_new_repository(repository):
     assert asked.status == 0, asked.error
 
 
+@pytest.mark.kit
 @pytest.mark.slow
 @pytest.mark.timeout(1000)
 @pytest.mark.parametrize("number", range(len(PROGRAMS)))

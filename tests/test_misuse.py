@@ -5,7 +5,7 @@ import pytest
 from planted import applied, mutant
 from trying import HOME, answer_of, copy_crates, paths, text_of, write
 
-pytestmark = [pytest.mark.early, pytest.mark.slow, pytest.mark.timeout(1800)]
+pytestmark = [pytest.mark.kit, pytest.mark.early, pytest.mark.slow, pytest.mark.timeout(1800)]
 MUTANTS = [path.removeprefix("crates/") for path in paths("crates/*/misuse/*.edit")]
 
 

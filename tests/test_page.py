@@ -125,7 +125,7 @@ def test_own_plan(page, plan, said):
 
 def test_plan_that_is_too_long(page):
     """A plan that is too long for an address leaves it empty, as is said."""
-    page.open()
+    page.open(RING)
     page.write_plan(LONG + "# " + "".join(map(chr, random.Random(0).choices(range(0x4E00, 0x9FFF), k=26_000))))
     page.until("location.hash === '' && !one('#too-long').hidden", 10)
 
@@ -179,6 +179,19 @@ def test_undone_run(page):
     assert page.choices() == [4]
 
 
+def test_long_wait(page):
+    """A run is found in which a site waits long, shown where that site is to eat. What was shown comes back."""
+    page.open(f"{RING}&choices={ASKED}")
+    page.js("(one('#find-site').value = 4, one('#find-count').value = 60, null)")
+    page.do("#find button")
+    begin, end = map(int, re.search(r": e waits, events (\d+) to (\d+)\.$", page.text("#find-note")).groups())
+    assert end - begin >= 59 and page.event() == end and page.state()["sites"][4]["phase"] == "hungry"
+    page.do("ArrowRight")
+    assert page.text("#last b").startswith("e begins meal") and page.text("#find-note")
+    page.do("^z")
+    assert page.text("#find-note") == "" and page.choices() == [int(it) for it in ASKED.split(",")]
+
+
 def on_timeline(page, part, drag=0):
     """Clicks so far along the timeline, from 0 at its left to 1 at its right, and returns how many events are done. Or
     drags from there."""
@@ -205,7 +218,7 @@ def test_timeline(page):
 @pytest.mark.slow
 def test_long_run(served):
     """A run of threads with over 7,000 events is drawn whole, zoomed and gone through, with words for each event."""
-    served.open()
+    served.open(RING)
     served.write_plan(plan_of([500] * 5, graph_of("ring:5")[1]).decode())
     served.one("#threads").click()
     served.until("one('#play').textContent === 'Pause'", 60)
@@ -221,8 +234,9 @@ def test_long_run(served):
     assert served.js(width) == wide
 
 
-# How often the page may be laid out for a step: 3 to 5 times were page.
-LAYOUTS = 8
+# How often the page may be laid out for a step: it is once. While marks fly they are laid out in each frame, too, and
+# how many frames there are depends on what else the machine does.
+LAYOUTS = 3
 # What a step may cost until it is drawn: milliseconds of a processor. It is twice what is aimed at, as the caches and
 # the cores are shared with what runs beside. The time itself is not tried: it depends on what else the machine does.
 # 16 sites in a ring with further edges, 64 sites with 512 edges, and 64 sites with 1,000 jobs each.
@@ -230,8 +244,9 @@ COSTS = {"few": (2 * 40, [2] * 16, graph_of("ring:16")[1] + [(it, it + 2) for it
          "many": (2 * 120, [2] * 64, graph_of("band:64")[1]), "large": (2 * 50, [1000] * 64, graph_of("ring:64")[1])}
 
 
-def steps_cost_at_most(page, milliseconds):
-    """Does steps, and looks at what they cost on average."""
+def cost_of_steps(page, motion):
+    """Returns what a step costs on average, in milliseconds of a processor, and how often it lays the page out."""
+    page.look(motion=motion)
     costs = []
     for count in (0, 20):
         for _ in range(count):
@@ -239,13 +254,18 @@ def steps_cost_at_most(page, milliseconds):
             page.wait("drawn")
         found = {it["name"]: it["value"] for it in page.cdp("Performance.getMetrics")["metrics"]}
         costs.append((1000 * found["TaskDuration"], found["LayoutCount"]))
-    cost, layouts = ((now - was) / 20 for was, now in zip(*costs))
+    return [(now - was) / 20 for was, now in zip(*costs)]
+
+
+def steps_cost_at_most(page, milliseconds):
+    """Does steps, with marks that fly and with marks that don't, and looks at what they cost."""
+    (cost, _), (_, layouts) = (cost_of_steps(page, it) for it in ("no-preference", "reduce"))
     assert cost <= milliseconds and layouts <= LAYOUTS
 
 
 @pytest.mark.slow
 @pytest.mark.parametrize(("milliseconds", "jobs", "edges"), COSTS.values(), ids=COSTS)
 def test_cost_of_steps(page, milliseconds, jobs, edges):
-    page.open()
+    page.open(RING)
     page.write_plan(plan_of(jobs, edges).decode())
     steps_cost_at_most(page, milliseconds)

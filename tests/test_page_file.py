@@ -28,7 +28,7 @@ def sent(page):
 def test_copied_address(page):
     """A plan of one's own of eight sites is stepped there and back, and a copied address opens the same moment
     elsewhere."""
-    page.open()
+    page.open(RING)
     page.write_plan(EIGHT)
     said = [page.said(), *((page.do("#step"), page.said())[1] for _ in range(12))]
     for number in range(11, 4, -1):

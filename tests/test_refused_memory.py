@@ -1,5 +1,6 @@
 """Lets each allocation of a call fail in turn: each run has to end with a result that tests/tables/refused_memory.toml
-allows. A run that goes well although an allocation failed, hangs or ends by a signal has no such result."""
+allows. A run that goes well although an allocation failed, hangs or ends by a signal has no such result. The same of
+the program that comes with the repository is tried in tests/test_programs.py."""
 import itertools
 import os
 import tomllib
@@ -9,7 +10,8 @@ import calls
 import pytest
 from trying import HOME, Answer, answer_of, program_of, text_of
 
-pytestmark = [pytest.mark.built("dine_refusals", "dine_cli"), pytest.mark.slow, pytest.mark.timeout(900)]
+pytestmark = [pytest.mark.built("dine_refusals", "dine_cli"), pytest.mark.kit, pytest.mark.slow,
+              pytest.mark.timeout(900)]
 # How often all allocations are gone through if a result has not occurred: the order of the threads differs each time.
 SWEEPS = 5
 PAIR = text_of("plans/pair.toml").encode()

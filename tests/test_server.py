@@ -176,8 +176,8 @@ def test_program_that_takes_too_long(here, monkeypatch):
 
 
 def test_clean_clone(tmp_path, capfd):
-    """Where nothing is built and there is no rt, show begins at once, and says that it can't build the program."""
-    ignored = shutil.ignore_patterns(".git", "out", "target", "lib", "__pycache__")
+    """Where no program is there and no rt, show begins at once, and says that it can't build the program."""
+    ignored = shutil.ignore_patterns(".git", "out", "programs", "target", "lib", "__pycache__")
     shutil.copytree(HOME, f"{tmp_path}/clone", ignore=ignored)
     path, times = ":".join(it for it in os.environ["PATH"].split(":") if not os.path.exists(f"{it}/rt")), []
     for _ in range(3):

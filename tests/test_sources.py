@@ -6,7 +6,7 @@ import shutil
 from pathlib import Path
 
 import pytest
-from planted import BUGS, POLITE, applied, mutant
+from planted import BUGS, MANNERS, applied, mutant
 from trying import HOME, Answer, answer_of, copy_crates, crates, paths, text_of
 
 pytestmark = pytest.mark.early
@@ -17,7 +17,7 @@ FILES = [it for it in (".ci/run", "dine", "show", "verify", *paths("bindings/bui
 FIRST = {it: Path(HOME, it).read_bytes().partition(b"\n")[0] for it in FILES}
 PYTHON = [it for it in FILES if it.endswith(".py") or FIRST[it] == b"#!/usr/bin/env python3"]
 SHELL = [it for it in FILES if FIRST[it] in (b"#!/usr/bin/env bash", b"#!/bin/sh")]
-PLANTED = {"polite": POLITE, **BUGS}
+PLANTED = {**MANNERS, **BUGS}
 
 
 @pytest.mark.parametrize("name", PLANTED)
@@ -25,7 +25,7 @@ def test_planted_bug_changes_the_sources(name):
     applied(PLANTED[name], f"{HOME}/crates")
 
 
-@pytest.mark.parametrize("path", paths("crates/*/misuse/*.edit") + paths("crates/*/must-fail/*.edit"))
+@pytest.mark.parametrize("path", paths("crates/*/misuse/*.edit") + paths("crates/*/mutants/*.edit"))
 def test_mutant_changes_the_sources(path):
     error, changes = mutant(text_of(path))
     applied(changes, f"{HOME}/{os.path.dirname(os.path.dirname(path))}")
@@ -36,7 +36,8 @@ def ran(tool, *words, at=HOME):
     """Runs a tool in this folder. Skips the test if this machine does not have it."""
     if not shutil.which(tool):
         pytest.skip(f"{tool} is not installed")
-    return answer_of(words, tool, cwd=at)
+    # They run beside the proofs, at a lower priority.
+    return answer_of(words, tool, 280, cwd=at)
 
 
 @pytest.mark.parametrize("path", PYTHON)
@@ -48,8 +49,9 @@ def test_shellcheck():
     assert ran("shellcheck", "-x", *SHELL) == Answer(0, "", "")
 
 
-def test_tidy():
-    _, output, error = ran("tidy", "-quiet", "-errors", "--drop-empty-elements", "no", "page/index.html")
+@pytest.mark.parametrize("path", ["page/index.html", "page/article.html", "lessons/handout.html"])
+def test_tidy(path):
+    _, output, error = ran("tidy", "-quiet", "-errors", "--drop-empty-elements", "no", path)
     assert [it for it in (output + error).splitlines() if not it.endswith(KNOWN)] == []
 
 

@@ -1,7 +1,7 @@
 """Tries the texts of tests/texts/, where each is below a line '# check> LINE' with what 'dine check' prints of it; and
 texts at the limits, which are long: tests/tables/limits.toml has their parts."""
 import tomllib
-from itertools import combinations
+from itertools import combinations, cycle, islice
 
 import pytest
 from calls import REFUSED, answer_with, dine, stored_texts
@@ -16,7 +16,7 @@ def crowd(jobs, name="crowd", job='{{ name = "j{}" }}, '):
 
 
 def edges(sites, count):
-    pairs = [*combinations(range(sites), 2)][:count]
+    pairs = islice(cycle(combinations(range(sites), 2)), count)
     return "".join(f'[[edge]]\nends = ["s{high}", "s{low}"]\n' for low, high in pairs)
 
 

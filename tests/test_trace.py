@@ -65,6 +65,36 @@ def test_schedule(path):
     check_replay(text, end["done"], end)
 
 
+# Two sites, of which the second fails at two of its four meals and goes on.
+TWICE = """[[site]]
+name = "a"
+jobs = [{ name = "1" }, { name = "2" }]
+[[site]]
+name = "b"
+jobs = [{ name = "1" }, { name = "2", fails = true }, { name = "3", fails = true }, { name = "4" }]
+[[edge]]
+ends = ["a", "b"]
+"""
+
+
+@pytest.mark.parametrize(("version", "value"), [(1, None), (2, 0)])
+def test_value_by_version(version, value):
+    """An edge has a value in version 2 alone, and in version 1 at no moment."""
+    _, states = along(f"version = {version}\n{TWICE}", [0] * 60)
+    assert len(states) > 20 and [it["edges"][0]["value"] for it in states] == [value] * len(states)
+
+
+def test_each_failed_meal():
+    """A site that goes on keeps all of its meals that failed, in order, from the end of each on."""
+    _, states = along(f"version = 1\n{TWICE}", [0] * 60)
+    failed = [[site["failed"] for site in it["sites"]] for it in states]
+    ends = [(it["last"]["site"], it["last"]["meal"]) if it["last"] and it["last"]["kind"] == "end" else None
+            for it in states]
+    after_2, after_3 = ends.index((1, 2)), ends.index((1, 3))
+    wanted = [[[], [2, 3] if n >= after_3 else [2] if n >= after_2 else []] for n in range(len(states))]
+    assert failed == wanted and len(states) - 1 > after_3 > after_2 > 1
+
+
 def test_long_list():
     """A LIST that is longer than the system allows for an argument."""
     given = ",".join(["0"] * 100_000) + "\n" + text_of("plans/ring_of_five.toml")

@@ -25,9 +25,10 @@ def verified(tmp_path):
         script(tmp_path / "tools" / it, "1 passed, 0 failed")
     script(tmp_path / "tools/model", "model: skipped: no spin\n4 passed, 0 failed, 1 skipped")
     script(tmp_path / "bin/python3", TESTS)
+    script(tmp_path / "bin/rt", "")
 
-    def call(*words):
-        how = {"env": {**os.environ, "PATH": f"{tmp_path}/bin:{os.environ['PATH']}"}}
+    def call(*words, path=os.environ["PATH"]):
+        how = {"env": {**os.environ, "PATH": f"{tmp_path}/bin:{path}"}}
         ran = answer_of(words, f"{tmp_path}/verify", **how)
         return ran.status, [" ".join(line.split()) for line in ran.output.splitlines()]
 
@@ -42,8 +43,21 @@ def test_table(verified):
     assert any(re.fullmatch(r"model 4 0 1 \d+", it) for it in end) and end.count("plans 3 0 0 2") == 2
 
 
+@pytest.mark.parametrize(("words", "last"), [
+    ([], "7 passed, 0 failed"), (["--quick"], "7 passed, 0 failed"),
+])
+def test_without_kit(verified, tmp_path, words, last):
+    """Nothing is built, and the last line says what was left out."""
+    (tmp_path / "bin/rt").unlink()
+    for it in ("build", "mutants", "schedules", "model"):
+        script(tmp_path / "tools" / it, f"{it} was called", 1)
+    status, lines = verified(*words, path="/usr/bin:/bin")
+    left = "without rt of the Rattle kit these were left out: proofs, mutants, schedules, models, and tests that build"
+    assert (status, lines[-1]) == (0, f"{last}; {left}") and not any("was called" in it for it in lines)
+
+
 @pytest.mark.parametrize(("words", "status", "last"), [
-    (["--no-skips"], 1, r"\d+ passed, 1 failed"), (["--quick"], 0, "5 passed, 0 failed"),
+    (["--no-skips"], 1, r"\d+ passed, 1 failed"), (["--quick"], 0, "6 passed, 0 failed"),
     (["--slow"], 2, ""), (["--quick", "--no-skips"], 2, ""), ([""], 2, ""),
 ])
 def test_arguments(verified, words, status, last):
@@ -53,7 +67,7 @@ def test_arguments(verified, words, status, last):
 
 @pytest.mark.slow
 @pytest.mark.parametrize(("prints", "ends"), [("1 passed, 0 failed", 3), ("nothing", 0), ("1 passed, 1 failed", 1)])
-@pytest.mark.parametrize("check", ["bin/python3", "tools/believe", "tools/schedules"])
+@pytest.mark.parametrize("check", ["bin/python3", "tools/believe", "tools/build", "tools/mutants", "tools/wasm"])
 def test_failure(verified, tmp_path, check, prints, ends):
     script(tmp_path / check, prints, ends)
     status, lines = verified()

@@ -9,30 +9,37 @@ from trying import HOME, paths
 
 FIRST = "plans/ring_of_five.toml"
 CHOICES = re.compile("([0-9]{1,10}(,[0-9]{1,10})*)?")
+# The kinds of challenges besides that of a hungry site.
+CHALLENGES = ("far", "queue")
 # The kinds of marks that a moment may show, what it may point at, and how many words it may have there.
 MARKS = ("forks", "tokens", "arrows", "counts")
 POINT = re.compile("(site|count) [^ ]+|(fork|token|arrow) [^ ]+-[^ ]+")
 WORDS = 12
+# Who stops for good where four ways run beside each other.
+WAYS = re.compile("nobody|[^ ]+ (meal|after)")
 
 
 # The keys of a lesson and of a moment, as lessons/README.md has them: what each has to be, and what is said if not.
 LESSON = (
     ("title", str, "is no text"),
+    ("place", int, "is no number"),
     ("moment", lambda it: it and isinstance(it, list) and all(isinstance(one, dict) for one in it),
      "is no array of tables"),
 )
 MOMENT = (
-    ("plan text choices title note site point callout starve question because", str, "is no text"),
+    ("plan text choices title note site point callout starve challenge question because ways", str, "is no text"),
     ("show options hints", lambda it: isinstance(it, list) and all(isinstance(one, str) for one in it),
      "is no list of texts"),
     ("choices", CHOICES.fullmatch, "is no list of numbers with commas between them"),
     ("at", lambda it: type(it) is int and it >= 0, "is no number of events"),
-    ("hide see", bool, "is neither true nor false"),
+    ("hide see recorded", bool, "is neither true nor false"),
+    ("challenge", CHALLENGES.__contains__, f"is none of {', '.join(CHALLENGES)}"),
     ("naive", lambda it: it in (True, False, "alone"), 'is none of true, false and "alone"'),
     ("show", {*MARKS}.issuperset, f"has other words than {', '.join(MARKS)}"),
     ("point", POINT.fullmatch, 'is neither like "site a" nor like "fork a-b"'),
     ("callout", lambda it: len(it.split()) <= WORDS, f"has more than {WORDS} words"),
     ("answer", int, "is not the number of an option"),
+    ("ways", WAYS.fullmatch, 'is neither "nobody" nor like "c meal" or "c after"'),
 )
 
 
@@ -75,6 +82,8 @@ def faults_of_moment(it):
     yield from faults_of(it, MOMENT)
     options = it.get("options", [])
     faults = {
+        "it has recorded, and not a plan alone": it.get("recorded") and ("plan" not in it or "choices" in it),
+        "it has the challenge far, and no starve": it.get("challenge") == "far" and "starve" not in it,
         "it has not one of plan and text": ("plan" in it) == ("text" in it),
         "it has only one of point and callout": ("point" in it) != ("callout" in it),
         "it has only one of question and options": ("question" in it) != bool(options),
@@ -82,6 +91,14 @@ def faults_of_moment(it):
         "hints has not a text for each option": len(it.get("hints", options)) != len(options),
     }
     yield from (fault for fault, is_so in faults.items() if is_so)
+
+
+def recorded(path):
+    """Returns the choices of the run on threads that was recorded of this plan."""
+    runs = json.loads(text_of(f"{HOME}/page/runs.json"))
+    if path not in runs:
+        raise Fault(f"no run of {path} was recorded")
+    return runs[path]
 
 
 def whole(moment, path):
@@ -93,7 +110,8 @@ def whole(moment, path):
     for folder in (HOME, os.path.dirname(path)):
         found = os.path.join(folder, moment["plan"])
         if os.path.isfile(found):
-            return {"choices": "", **moment, "plan": own_path(found), "text": text_of(found)}
+            choices = {"choices": recorded(own_path(found))} if moment.get("recorded") else {}
+            return {"choices": "", **moment, **choices, "plan": own_path(found), "text": text_of(found)}
     raise Fault(f"there is no plan {moment['plan']}")
 
 
@@ -115,7 +133,8 @@ def lesson_of(path, text):
             moments.append(whole(moment, path))
         except Fault as fault:
             raise Fault(f"{path}: moment {number}: {fault.args[0]}") from None
-    return {"title": title, "path": own_path(path), "moments": moments}
+    found = {"title": title, "path": own_path(path), "moments": moments}
+    return {**found, "place": table["place"]} if "place" in table else found
 
 
 def offer(given):

@@ -123,8 +123,8 @@ def rust_call(name, params):
 
 
 def python_struct(name, fields):
-    row = ", ".join(f'("{field}", c_uint32)' for field in fields)
-    return f"\n\nclass {STRUCTS[name][1]}(Structure):\n    _fields_ = [{row}]\n"
+    row = ", ".join(f'"{field}"' for field in fields)
+    return f"\n\nclass {STRUCTS[name][1]}(Structure):\n    _fields_ = [(it, c_uint32) for it in ({row})]\n"
 
 
 def python_call(name, params):

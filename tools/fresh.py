@@ -1,9 +1,10 @@
 """Says whether a program was built from the sources as they are now. What counts is what the sources contain, and not
 their times. And it has rt's own library, of which tools/build and tools/wasm build crates.
 
-Beside a program there are two files. NAME.made has a sum of the sources that it was built from and of the program
-itself. NAME.seen has the output of tools/seen at the last time when the two were compared: as long as tools/seen prints
-the same, nothing was touched since then, and ./dine need not read the sources again."""
+Of the programs that come with the repository tools/made says it. Beside a program that was built here there are two
+files. NAME.made has a sum of the sources that it was built from and of the program itself. NAME.seen has the output of
+tools/seen at the last time when the two were compared: as long as tools/seen prints the same, nothing was touched since
+then, and ./dine need not read the sources again."""
 import fcntl
 import hashlib
 import os
@@ -14,6 +15,10 @@ import threading
 from pathlib import Path
 
 from trying import HOME, crates, with_those_below
+
+
+# The files of programs/, by the crates that they are made of.
+COMMITTED = {"dine_cli": "dine", "dine_trace": "dine_trace", "dine_ffi": "libdine.a"}
 
 
 def programs():
@@ -84,3 +89,24 @@ def note(name, program, sources):
     """Notes that a program was built from sources with this sum."""
     replace(f"{program}.made", f"{sources} {sum_of(program)}\n")
     is_current(name, program)
+
+
+class Stale(Exception):
+    """The file of programs/ can't be used, and none can be built: the line says why, and what to do."""
+
+
+def committed(crate):
+    """Returns the path of the file of programs/ that was made of a crate, as ./dine takes it: if it was made of the
+    sources as they are, or if DINE_COMMITTED is 1. Returns None if one has to be built."""
+    if os.environ.get("DINE_PROVE") == "1":
+        return None
+    name = COMMITTED[crate]
+    asked = subprocess.run([f"{HOME}/tools/made", name], capture_output=True, text=True, check=False)
+    line, is_wanted = asked.stdout.strip(), os.environ.get("DINE_COMMITTED") == "1"
+    if asked.returncode == 1 and is_wanted:
+        print(f"dine: {line}, and DINE_COMMITTED is 1: so this is the one from before", file=sys.stderr, flush=True)
+    elif asked.returncode == 1 and not shutil.which("rt"):
+        raise Stale(f"{line}, and there is no rt to build it: DINE_COMMITTED=1 takes the one from before")
+    elif asked.returncode in (2, 3):
+        raise Stale(line)
+    return f"{HOME}/programs/{name}" if asked.returncode == 0 or asked.returncode == 1 and is_wanted else None

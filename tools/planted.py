@@ -1,5 +1,5 @@
-"""Changes of the sources: the bugs that tools/schedules plants, and the mutants of misuse/ and must-fail/. A change has
-a file, a text that is in it once, and what is put in its place."""
+"""Changes of the sources: the manners and the bugs that tools/schedules gives the program, and the mutants of misuse/
+and mutants/. A change has a file, a text that is in it once, and what is put in its place."""
 import re
 import tomllib
 
@@ -8,9 +8,14 @@ from trying import text_of
 # What the compiler's error must contain, in misuse/ alone, and then the pairs for each file.
 PAIRS = r"file: *(\S+) *\n((?:old: .+\nnew:.*\n)+)"
 MUTANT = re.compile(rf"(?:refused: *(\S.*?) *\n)?((?:{PAIRS})+)")
-BUGS = {name: [(it["file"], it["old"], it["new"]) for it in bug]
-        for name, bug in tomllib.loads(text_of("tools/planted.toml")).items()}
-POLITE = BUGS.pop("polite")
+PLANTED = tomllib.loads(text_of("tools/planted.toml"))
+FILE = PLANTED.pop("manners")
+# The changes that give the sites of the program a manner: none for the one that they have.
+MANNERS = {name: [(FILE["file"], FILE["greedy"], new)] if name != "greedy" else []
+           for name, new in FILE.items() if name != "file"}
+BUGS = {name: [change for it in bug
+               for change in (MANNERS[it["manner"]] if "manner" in it else [(it["file"], it["old"], it["new"])])]
+        for name, bug in PLANTED.items()}
 
 
 def mutant(text):

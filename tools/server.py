@@ -6,6 +6,7 @@ import subprocess
 import sys
 import threading
 
+import fresh
 from catalog import Fault, offer
 from exports import page_of
 from trying import BOUND, HOME, program_of
@@ -20,9 +21,15 @@ HEADERS = {"Content-Security-Policy": "frame-ancestors 'none'", "X-Content-Type-
            "Cache-Control": "no-store"}
 
 
-def called(words, given, seconds, is_unproved):
-    """Calls the program that runs threads, and returns what it prints. If its status is not 0, its line is a fault. The
-    program is built first, if it has to be, and the lines of that go on to standard error."""
+def program_for(is_unproved):
+    """Returns the program that runs threads: the one that comes with the repository, or else one that is built here. If
+    it has to be built first, the lines of that go on to standard error."""
+    if not is_unproved:
+        try:
+            if program := fresh.committed(CRATE):
+                return program
+        except fresh.Stale as fault:
+            raise Fault(f"the program that runs threads can't be had: {fault}") from None
     how, line = {"stdin": subprocess.DEVNULL, "stderr": subprocess.PIPE, "text": True, "errors": "replace"}, ""
     # A child of BOUND ends with this thread.
     with subprocess.Popen([*BOUND, f"{HOME}/tools/build", *["--unproved"] * is_unproved, CRATE], **how) as build:
@@ -30,7 +37,12 @@ def called(words, given, seconds, is_unproved):
             print(line, end="", file=sys.stderr, flush=True)
     if build.returncode:
         raise Fault(f"the program that runs threads can't be built: {line.strip().removeprefix('dine: ')}")
-    words = [*BOUND, program_of(CRATE, is_unproved), *words]
+    return program_of(CRATE, is_unproved)
+
+
+def called(words, given, seconds, is_unproved):
+    """Calls the program that runs threads, and returns what it prints. If its status is not 0, its line is a fault."""
+    words = [*BOUND, program_for(is_unproved), *words]
     try:
         ran = subprocess.run(words, input=given, capture_output=True, timeout=seconds, check=False)
     except subprocess.TimeoutExpired:

@@ -7,22 +7,28 @@
  *     dine_handle world = DINE_CLOSED_HANDLE;
  * An open call puts a plan, a world or a site into a closed handle. dine_close takes it out and frees its memory.
  *
- * ANSWERS. A number from 0 on is an answer. A number below 0 says why there is none, and then nothing has changed. A
- * null pointer, a closed handle, a handle of another kind, a number out of range and bytes that are no letter are such
- * answers. Else a call for a step does it if the rules allow it now, and refuses if they do not. Two things more may
- * stop it: the memory for a letter is too small, or an allocation failed.
+ * ANSWERS. A number from 0 on is an answer. A number below 0 says why there is none, and then nothing has changed, and
+ * nothing was written for you. A null pointer, a closed handle, a handle of another kind, a number out of range and
+ * bytes that are no letter are such answers. Else a call for a step does it if the rules allow it now, and refuses if
+ * they do not. It returns DINE_OK if it did the step, or the number of the letter's bytes if the step puts one. Two
+ * things more may stop it: the memory for a letter is too small, or an allocation failed, of a Fork that may be taken.
  *
  * WHAT YOU PROMISE, since nothing can check it:
  *   - a handle is set to zero before its first use, and after that only these calls write into it; no copy of an open
  *     handle is used;
  *   - one call at a time uses a handle. It may go to another thread, if a lock or a join orders the calls;
  *   - a pointer that is not null leads to as many elements as the length says, and no two arguments overlap;
- *   - no call comes from a signal handler.
+ *   - no call comes from a signal handler;
+ *   - a call has 128 KB of stack. dine_plan_open and dine_plan_refusal need the most, for a text with nested brackets.
  *
- * WHAT NO CALL CAN KNOW. A number of a site, an edge or a place that is out of range is refused. One of another plan that
- * is in range is taken as a number of this one. A letter is refused if its edge is none of the site's, or if the fork
- * that was kept does not explain it; a Request, a Done or a Close of another plan's edge with the same number is taken. A
- * letter tells how many meals its sender ate and the value of the edge, and nothing else is known of them.
+ * MEMORY. In a library that is made without the kit all handles of a process share one memory, which grows up to 1 GB
+ * and is not given back to the system. What is closed is used again, also in pieces of another size. A call copies its
+ * arguments there, and returns DINE_MEMORY if they do not fit, whatever it is for.
+ *
+ * WHAT NO CALL CAN KNOW. A number of a site, an edge or a place that is out of range is refused. One of another plan
+ * that is in range is taken as a number of this one. A letter is refused if its edge is none of the site's, or if the
+ * fork that was kept does not explain it; a Request, a Done or a Close of another plan's edge with the same number is
+ * taken. A letter tells how many meals its sender ate and the value of the edge, and nothing else is known of them.
  */
 #ifndef DINE_H
 #define DINE_H
@@ -48,7 +54,7 @@ enum {
     DINE_OPEN_ALREADY = -8,     /* the handle to be opened is open */
     DINE_NULL = -9,             /* a pointer is null */
     DINE_SAME_HANDLE = -10,     /* two handles of one call are one */
-    DINE_LETTER_LENGTH = -11,   /* the bytes are no letter: too few, or too many */
+    DINE_LETTER_LENGTH = -11,   /* the bytes are no letter: none, or too few or too many for the kind that is first */
     DINE_LETTER_KIND = -12,     /* the bytes are no letter: the first is no kind */
     DINE_LETTER_UNLAWFUL = -13, /* the other end cannot have done that with the fork */
     DINE_LETTER_EDGE = -14,     /* the letter is of an edge that the site does not have */
@@ -66,7 +72,8 @@ typedef struct dine_ends { uint32_t lower, higher; } dine_ends;
 typedef struct dine_period { uint32_t site, first, count; } dine_period;
 /* phase: 0 thinking, 1 hungry, 2 eating */
 typedef struct dine_site_now { uint32_t phase, ate, degree, finished; } dine_site_now;
-typedef struct dine_place { uint32_t edge, neighbour, has_fork, has_token; } dine_place;
+/* is_dirty: the fork is here, and it is in the meal or was eaten with since it came */
+typedef struct dine_place { uint32_t edge, neighbour, has_fork, has_token, is_dirty; } dine_place;
 
 int64_t dine_close(dine_handle *handle);
 
@@ -119,6 +126,9 @@ int64_t dine_site_done(dine_handle *site, uint32_t i, uint8_t *out, size_t out_l
 int64_t dine_site_shut(dine_handle *site, uint32_t i, uint8_t *out, size_t out_len);
 /* Gives the link of a place up, as after the loss of its connection: the letter is Close. */
 int64_t dine_site_break(dine_handle *site, uint32_t i, uint8_t *out, size_t out_len);
+/* Does an event of this site as the call of its kind does. Returns the number of bytes of the letter that it puts, or
+ * 0. An End is that of a job that went well. A Take is no such event: dine_site_take takes a letter. */
+int64_t dine_site_act(dine_handle *site, const dine_event *event, uint8_t *out, size_t out_len);
 int64_t dine_site_take(dine_handle *site, const uint8_t *letter, size_t letter_len);
 int64_t dine_site_begin(dine_handle *site);
 int64_t dine_site_end(dine_handle *site, bool failed);

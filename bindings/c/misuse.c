@@ -1,6 +1,7 @@
 /* Calls that are not as they should be: null pointers, handles that are closed, of another kind, used twice or never
  * set, and letters that are cut, changed or made up. Each has to answer, and to change nothing. */
 #include "dine.h"
+#include <pthread.h>
 #include <stdio.h>
 #include <stdlib.h>
 #include <string.h>
@@ -219,6 +220,29 @@ static void refusals(void) {
     WANT(dine_plan_refusal(NULL, 1, words, sizeof words), DINE_NULL);
 }
 
+/* The deepest brackets that a text may have, and one more, on a thread with the stack that dine.h asks for. */
+static void *read_nested(void *unused) {
+    uint8_t words[64];
+    char text[256];
+    for (int depth = 80; depth <= 81; depth++) {
+        int n = sprintf(text, "version = 1\nx = ");
+        memset(text + n, '[', depth);
+        memset(text + n + depth, ']', depth);
+        WANT(dine_plan_refusal((const uint8_t *)text, n + 2 * depth, words, sizeof words), depth == 80 ? 12 : 9);
+        WANT(memcmp(words, depth == 80 ? "3 UnknownKey" : "1 NotToml", depth == 80 ? 12 : 9), 0);
+    }
+    return unused;
+}
+
+static void on_a_small_stack(void) {
+    pthread_attr_t attributes;
+    pthread_t thread;
+    pthread_attr_init(&attributes);
+    WANT(pthread_attr_setstacksize(&attributes, 128 * 1024), 0);
+    WANT(pthread_create(&thread, &attributes, read_nested, NULL), 0);
+    WANT(pthread_join(thread, NULL), 0);
+}
+
 int main(void) {
     WANT(dine_plan_open((const uint8_t *)PLAN, strlen(PLAN), &plan), DINE_OK);
     for (int i = 0; i < MISUSED; i++)
@@ -226,6 +250,7 @@ int main(void) {
     letters();
     during_a_meal();
     refusals();
+    on_a_small_stack();
     WANT(dine_close(&plan), DINE_OK);
     printf("%d wrong\n", wrong);
     return wrong != 0;

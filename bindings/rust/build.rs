@@ -1,5 +1,6 @@
 //! Links the proved rules. The folder with libdine.a is the one that `DINE_LIB` names, by its full path, or else
-//! ../lib. If there is none, or `DINE_NOKIT` is set, ../build makes one of the rules as C, with the C compiler `CC`.
+//! ../lib. If there is none, ../build makes one, with the C compiler `CC`: of the library that was proved and built, or
+//! where that is not, or `DINE_NOKIT` is set, of the rules as C. In a package ./build does that.
 use std::env::var;
 use std::path::{Path, PathBuf};
 use std::process::Command;
@@ -32,9 +33,15 @@ fn existing(folder: &Path) -> PathBuf {
 
 fn compiled() -> PathBuf {
     let folder = PathBuf::from(var("OUT_DIR").expect("cargo sets it"));
-    println!("cargo:rerun-if-changed=../c");
-    let ran = Command::new("sh").args(["../build", "--nokit"]).arg(&folder).output().expect("sh runs");
+    let build = if Path::new("../build").exists() { "../build" } else { "build" };
+    for path in ["c", "../c", "../../programs/made"] {
+        if Path::new(path).exists() {
+            println!("cargo:rerun-if-changed={path}");
+        }
+    }
+    let nokit = var("DINE_NOKIT").is_ok().then_some("--nokit");
+    let ran = Command::new("sh").arg(build).args(nokit).arg(&folder).output().expect("sh runs");
     let said = String::from_utf8_lossy(&ran.stderr);
-    assert!(ran.status.success(), "the rules as C are not compiled; is there a C compiler?\n{said}");
+    assert!(ran.status.success(), "{build} made no library; is there a C compiler?\n{said}");
     folder
 }

@@ -107,7 +107,7 @@ static void send_note(note note) {
 /* Does an event that is none of a meal, and sends its letter. */
 static void act(uint32_t n, dine_event event) {
     dine_handle *site = &sites[n];
-    dine_place place = {0, 0, 0, 0};
+    dine_place place = {0, 0, 0, 0, 0};
     note it = {0, 0, {0}};
     int64_t len = 0;
     switch (event.kind) {
@@ -159,7 +159,7 @@ static void take(void) {
     if (++letters == dies_at)
         raise(SIGKILL);
     uint32_t edge = it.bytes[1] | it.bytes[2] << 8 | it.bytes[3] << 16 | (uint32_t)it.bytes[4] << 24;
-    dine_place place = {0, 0, 0, 0};
+    dine_place place = {0, 0, 0, 0, 0};
     uint32_t i = 0;
     while (must("a place", dine_site_place(&sites[it.to], i, &place)) == DINE_OK && place.edge != edge)
         i++;
@@ -187,7 +187,7 @@ static numbers record(void) {
         dine_site_now now = {0, 0, 0, 0};
         must("a state", dine_site_state(&sites[n], &now));
         for (uint32_t i = 0; i < now.degree; i++) {
-            dine_place place = {0, 0, 0, 0};
+            dine_place place = {0, 0, 0, 0, 0};
             must("a place", dine_site_place(&sites[n], i, &place));
             uint32_t log[3 * 4096], len = 0;
             if (place.has_fork)

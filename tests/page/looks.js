@@ -89,7 +89,8 @@ function kinds() {
 // The kinds of marks that the legend has words for.
 function named() {
   const words = {
-    forks: ["fork", "dirty fork", "clean fork"], tokens: ["token"], arrows: ["goes before", "waits for"],
+    forks: ["fork", "dirty fork", "clean fork"], tokens: ["token"],
+    arrows: ["goes before", "goes before, once it asks", "goes before, and gives nothing"],
     counts: ["how many go before"],
   };
   const shown = all("#legend li").map((it) => it.lastChild.textContent);
@@ -106,4 +107,67 @@ function misplaced() {
   const sites = shapes.filter((it) => covers(it.getBoundingClientRect()));
   const isIn = box.left >= room.left && box.right <= room.right && box.top >= room.top && box.bottom <= room.bottom;
   return isIn ? sites.map((it) => it.parentNode.textContent).join() : "outside";
+}
+
+const isSeen = (it) => it.getClientRects().length > 0 && getComputedStyle(it).visibility === "visible";
+const labelOf = (it) => it.id || it.textContent.trim().slice(0, 30) || it.className;
+
+// The controls that are beyond the sides of the window, or cut off by what is round them and does not scroll.
+function cutOff() {
+  const isHidden = (style) => ["hidden", "clip"].includes(style);
+  return all("button, select, input, textarea, .switches label, .switch").filter(isSeen).filter((it) => {
+    const box = it.getBoundingClientRect();
+    if (box.left < -1 || box.right > innerWidth + 1) return true;
+    for (let above = it.parentElement; above && above !== document.body; above = above.parentElement) {
+      const [room, { overflowX, overflowY }] = [above.getBoundingClientRect(), getComputedStyle(above)];
+      if (isHidden(overflowX) && (box.left < room.left - 1 || box.right > room.right + 1)) return true;
+      if (isHidden(overflowY) && (box.top < room.top - 1 || box.bottom > room.bottom + 1)) return true;
+    }
+    return false;
+  }).map(labelOf);
+}
+
+// The texts in the picture that a fork, a token or a letter covers to an eighth at least, and the badges.
+function coveredTexts() {
+  const boxOf = (it) => {
+    const boxes = [...it.children].filter((part) => !part.matches(".hit")).map((part) => part.getBoundingClientRect());
+    const side = (name, of) => of(...boxes.map((box) => box[name]));
+    return { left: side("left", Math.min), right: side("right", Math.max), top: side("top", Math.min),
+      bottom: side("bottom", Math.max) };
+  };
+  const marks = all(".side-by:not([hidden]) .canvas :is(.fork, .token, .word)").filter(isSeen).map(boxOf);
+  return all(".side-by:not([hidden]) .canvas .site text").filter((it) => isSeen(it) && it.textContent).filter((it) => {
+    const box = it.getBoundingClientRect();
+    return marks.some((mark) => {
+      const wide = Math.min(box.right, mark.right) - Math.max(box.left, mark.left);
+      const high = Math.min(box.bottom, mark.bottom) - Math.max(box.top, mark.top);
+      return wide > 1 && high > 1 && wide * high > box.width * box.height / 8;
+    });
+  }).map((it) => it.textContent);
+}
+
+// Which parts of the page lie over one another that should not: cards, and the parts of the picture's card. A card that
+// does not scroll has all of its parts within it.
+function overlaps() {
+  const isIn = (box, room) => box.bottom <= room.bottom + 1 && box.right <= room.right + 1;
+  const beyond = all(".room > .card, .side > .card").filter(isSeen).flatMap((card) => {
+    if (getComputedStyle(card).overflowY !== "visible") return [];
+    const parts = [...card.children, ...card.querySelectorAll(".canvas")].filter(isSeen);
+    const room = card.getBoundingClientRect();
+    return parts.filter((it) => !isIn(it.getBoundingClientRect(), room)).map((it) => `${labelOf(it)} beyond its card`);
+  });
+  return [...beyond, ...coveringParts()];
+}
+
+function coveringParts() {
+  const groups = [all("main .card"), [...one(".picture").children], [...one(".steps").children]];
+  const apart = (one_, other) => one_.right <= other.left + 1 || other.right <= one_.left + 1
+    || one_.bottom <= other.top + 1 || other.bottom <= one_.top + 1;
+  return groups.flatMap((parts) => {
+    const seen = parts.filter((it) => isSeen(it) && getComputedStyle(it).position !== "sticky");
+    const boxes = seen.map((it) => it.getBoundingClientRect());
+    return boxes.flatMap((box, at) => boxes.slice(at + 1).flatMap((other, more) => {
+      return apart(box, other) ? [] : [`${labelOf(seen[at])} over ${labelOf(seen[at + 1 + more])}`];
+    }));
+  });
 }

@@ -35,7 +35,8 @@ test("an answer that has no room in memory says so", () => {
 test("a handle that is closed, open already, or none of the module's says so", () => {
   reset();
   const [pair, [handle]] = [bytesOf("plans/pair.toml"), slice(new Uint8Array(16))];
-  const start = answer("dine_states", [...pair, ...numbers(), ...numbers(0)]).slice(1, -1);
+  const after = (place) => answer("dine_states", [...pair, ...numbers(0), ...numbers(place)]).slice(1, -1);
+  const [start, later] = [after(0), after(1)];
   const fill = (byte) => new Uint8Array(memory.buffer, Number(handle), 16).fill(byte);
   const ask = (call, ...given) => answer(`dine_${call}`, [...(call === "open" ? pair : []), handle, ...given]);
   const isClosed = () => {
@@ -46,10 +47,33 @@ test("a handle that is closed, open already, or none of the module's says so", (
   fill(255);
   isClosed();
   fill(0);
-  const asked = [["open"], ["open"], ["choose", 9], ["now"], ["choose", 0], ["restart"], ["now"], ["close"]];
-  const wanted = ["{}", refused("the handle is open"), refused("no such event"), start, "{}", "{}", start, "{}"];
+  const asked = [["open"], ["open"], ["choose", 9], ["now"], ["choose", 0], ["now"], ["restart"], ["now"], ["close"]];
+  const wanted = ["{}", refused("the handle is open"), refused("no such event"), start, "{}", later, "{}", start, "{}"];
   assert.deepEqual(asked.map((it) => ask(...it)), wanted);
+  assert.notEqual(start, later);
   isClosed();
+});
+
+test("a handle that is closed leaves no memory behind", () => {
+  // The memory of a module never gets smaller, so this one is new.
+  const own = new WebAssembly.Instance(new WebAssembly.Module(MODULE), {}).exports;
+  const text = new TextEncoder().encode(textOf("plans/star_of_64.toml"));
+  const [plan, handle, said] = [text.length, 16, 64].map((size) => own.room(BigInt(size)));
+  const bytesAt = (at, size) => new Uint8Array(own.memory.buffer, Number(at), size);
+  bytesAt(plan, text.length).set(text);
+  // Opens the plan so many times, closes the handle or forgets it, and returns how large the memory is then.
+  const sizeAfter = (times, leaves) => {
+    for (let turn = 0; turn < times; turn += 1) {
+      bytesAt(handle, 16).fill(0);
+      assert.equal(own.dine_open(plan, BigInt(text.length), handle, said, 64n), 2n);
+      leaves();
+    }
+    return own.memory.buffer.byteLength;
+  };
+  const close = () => assert.equal(own.dine_close(handle, said, 64n), 2n);
+  const before = sizeAfter(10, close);
+  assert.equal(sizeAfter(300, close), before);
+  assert.ok(sizeAfter(300, () => {}) > before);
 });
 
 // A plan of 64 sites in a circle with 1,000 jobs each, whose sites share an edge if they are this near.

@@ -114,12 +114,26 @@ test("each phase has an outline of its own", () => {
 
 // ---- Colours
 
-// The two values of each name of the page's colours, light and dark, as three numbers up to 255.
-const NAMED = /^ {2}--([\w-]+): (?:light-dark\((.*), (.*)\)|(#\w+));$/gm;
-const COLOURS = new Map([...textOf("page/page.css").matchAll(NAMED)].map(([, name, ...found]) => {
-  const [light, dark, both] = found.map((it) => it?.match(/\w\w/g).map((two) => parseInt(two, 16)));
-  return [name, { light: both ?? light, dark: both ?? dark }];
+// The blocks of the page's style that have its colours: light ones, dark ones if the machine asks for them, and if the
+// reader does.
+const STYLE = textOf("page/page.css");
+const BLOCKS = [":root {", ":root:not([data-theme=\"light\"]) {", "[data-theme=\"dark\"] {"].map((head) => {
+  const begin = STYLE.indexOf(head) + head.length;
+  const block = STYLE.slice(begin, STYLE.indexOf("}", begin));
+  return new Map([...block.matchAll(/--([\w-]+): (#\w+);/g)].map((it) => it.slice(1)));
+});
+const numbersOf = (colour) => colour.match(/\w\w/g).map((two) => parseInt(two, 16));
+// The two values of each name, light and dark, as three numbers up to 255.
+const COLOURS = new Map([...BLOCKS[0]].map(([name, light]) => {
+  return [name, { light: numbersOf(light), dark: numbersOf(BLOCKS[1].get(name) ?? light) }];
 }));
+
+test("the dark colours are the same twice, and no browser needs a function for them", () => {
+  assert.deepEqual(BLOCKS[1], BLOCKS[2]);
+  assert.ok(BLOCKS[0].size > 20 && BLOCKS[1].size > 20);
+  assert.doesNotMatch(STYLE, /light-dark\(|:has\(/);
+});
+
 // Which colours differ from what they are drawn on, and the least contrast.
 const CONTRASTS = [
   ...["ink", "faint"].flatMap((it) => [[it, "card", 4.5], [it, "page", 4.5]]), ["ink", "last", 4.5],

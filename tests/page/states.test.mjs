@@ -2,11 +2,12 @@
 import assert from "node:assert/strict";
 import test from "node:test";
 
-import { placeOf, numbersIn, wayFrom } from "../../page/lessons.js";
+import { placeOf, numbersIn, wayFrom, whereOf } from "../../page/lessons.js";
+import { findWait } from "../../page/finding.js";
 import { NaiveTable } from "../../page/naive.js";
 import { countsBefore, doesWhat, mealsOf } from "../../page/picture.js";
 import { drawn } from "../../page/schedule.js";
-import { otherEnd, waitsOf, whyNot } from "../../page/sentences.js";
+import { otherEnd, roleText, waitsOf, whyNot, wordsAhead } from "../../page/sentences.js";
 import { Spans, firstBehind, spanAt } from "../../page/spans.js";
 import { linesOfStarving } from "../../page/starving.js";
 import { ASKED, RING, does, scheduleOf, states, textOf } from "./rules.mjs";
@@ -167,7 +168,7 @@ test("the page counts what others eat while e is hungry, and says why no neighbo
   const { schedule, said } = await challenge();
   assert.equal(said()[0], "Pick an event below. Meals since e asked: d 0, a 0, b 0, c 0.");
   await does(schedule, "a begins meal 1", "a ends meal 1", "a grows hungry");
-  assert.equal(said()[0], "Your events: 3. Meals since e asked: d 0, a 1, b 0, c 0.");
+  assert.equal(said()[0], "Events since then: 3. Meals since e asked: d 0, a 1, b 0, c 0.");
   assert.equal(said()[2],
     "a ate 1: its fork is dirty and was asked for, so no other meal before it hands the fork to e.");
   await does(schedule, "d asks c for their fork", "c takes the request of d", "c gives d their fork");
@@ -181,6 +182,9 @@ test("the page counts what others eat while e is hungry, and says why no neighbo
   await does(schedule, "e ends meal 2");
   assert.deepEqual(said().slice(1), [eats]);
   assert.deepEqual(linesOfStarving(schedule, 0, "nobody"), []);
+  const other = await challenge();
+  const lines = linesOfStarving(other.schedule, other.schedule.at, "e", true);
+  assert.match(lines.join(), /What e waits for, and who could do it: .*a begins meal 1/);
 });
 
 test("whatever the others do, only events that feed e are left in the end", async () => {
@@ -224,4 +228,104 @@ test("the way from a moment goes on as long as moments do", () => {
   assert.deepEqual(ways, ["1,2,3", "1,2,3", "1,2,3", "4", "4,5", ""]);
   assert.deepEqual([numbersIn(""), numbersIn("1,20"), numbersIn(undefined)], [[], [1, 20], []]);
   assert.deepEqual([{ at: 0, choices: "1" }, { choices: "1,1" }, {}].map(placeOf), [0, 2, 0]);
+});
+
+test("a place is before, at or after a moment, or off its way", () => {
+  const of = (list, at, isPlain = false) => whereOf({ list: Uint32Array.from(list), at }, [4, 4, 3], 1, isPlain);
+  assert.deepEqual([0, 1, 2, 3].map((at) => of([4, 4, 3], at)), ["before", "there", "after", "off"]);
+  // The same number of events, but others.
+  assert.deepEqual([of([4, 0], 1), of([0], 1), of([4, 4, 3, 0], 4)], ["off", "off", "off"]);
+  assert.deepEqual([0, 1, 3, 4].map((at) => of([4, 4, 3, 0], at, true)), ["before", "there", "after", "after"]);
+});
+
+// ---- Long waits
+
+test("a run is found in which a site waits so long, and the same again by the same seed", async () => {
+  const schedule = await scheduleOf(RING);
+  for (const [site, least] of [[4, 20], [0, 40], [2, 60]]) {
+    const { list, wait, runs } = await findWait(schedule, site, least, 1);
+    assert.ok(wait.to - wait.from >= least && runs >= 1);
+    assert.deepEqual((await findWait(schedule, site, least, 1)).list, list);
+    const { state, events } = await scheduleOf(RING, list);
+    const waits = new Spans(events, state.sites, state.edges).waits[site];
+    assert.ok(waits.some(({ from, to }) => from === wait.from + 0.5 && to === wait.to));
+    const before = await scheduleOf(RING, list, wait.to);
+    assert.equal(before.state.sites[site].phase, "hungry");
+    assert.ok(before.state.enabled[list[wait.to]].words.startsWith(`${before.state.sites[site].name} begins`));
+  }
+  assert.equal((await findWait(schedule, 0, 9999, 1)).list, null);
+});
+
+// ---- Sentences that were false once
+
+// Why an event is not enabled, by its words.
+const reasonOf = (state, site, words) => whyNot(state, site).find((it) => it.words === words)?.why;
+
+test("a request on its way has not arrived, and that is what is said", async () => {
+  const { state } = await scheduleOf(RING, [3, 3, 1, 4, 3, 4, 5, 2, 2, 5, 0, 2, 4, 2]);
+  assert.equal(reasonOf(state, 0, "a gives e their fork"), "no request of e has arrived that is still open");
+  assert.ok(state.enabled.some(({ words }) => words === "a takes the request of e"));
+});
+
+test("a site without meals begins no meal with a number, and one whose only meal failed need not quit", async () => {
+  const text = `version = 2
+site = [{ name = "a", on_fault = "resign", jobs = [{ name = "1", fails = true }] }, { name = "b", jobs = [] }]
+edge = [{ ends = ["a", "b"] }]
+`;
+  const schedule = await scheduleOf(text, []);
+  await does(schedule, "a grows hungry", "a begins meal 1");
+  const [ends] = schedule.state.enabled.filter(({ kind }) => kind === "end");
+  assert.deepEqual([ends.words, wordsAhead(ends)], ["a ends meal 1, which failed", "a ends meal 1, which fails"]);
+  await does(schedule, "a ends meal 1, which failed");
+  const { state } = schedule;
+  assert.equal(reasonOf(state, 0, "a quits"), "no meal of it has failed while others were left");
+  assert.equal(reasonOf(state, 0, "a begins another meal"), "it has no meal left");
+  assert.equal(reasonOf(state, 0, "a ends a meal"), "it does not eat");
+});
+
+test("an arrow of plain forks leads from the holder to the one that waits", () => {
+  const table = new NaiveTable({ sites: NAMES, edges: ringEdges });
+  for (const { ends, fork, preferred, isCaught } of table.go(1000).state().edges) {
+    assert.ok(isCaught && ends.includes(preferred));
+    assert.equal(preferred, fork.at);
+  }
+  assert.equal(table.hasNext(), false);
+  assert.equal(table.go(9).hasNext(), true);
+});
+
+test("the roles of ends are sentences", async () => {
+  for await (const { state } of states(30, 5)) {
+    state.edges.forEach(({ roles, fork, token, ends }) => roles.forEach((role, end) => {
+      const [hasFork, hasToken] = [fork.at === ends[end], token.at === ends[end]];
+      const asked = hasFork ? `has the fork${hasToken ? ", and was asked for it" : ""}` : null;
+      assert.equal(roleText(role), asked ?? (hasToken ? "has the token" : "has asked for the fork"));
+    }));
+  }
+});
+
+test("the page says of sites that are done that their meals are, not the rules", async () => {
+  const { schedule, said } = await challenge();
+  for (let turn = 0; schedule.state.sites[2].left > 0; turn += 1) {
+    const feeds = /^[bc] |takes the request of [bc]|^[ad] gives [bc]/;
+    const others = schedule.state.enabled.filter(({ words }) => feeds.test(words));
+    assert.ok(others.length, schedule.state.enabled.map(({ words }) => words).join("; "));
+    await schedule.choose(others[(turn * 5) % others.length].number);
+  }
+  assert.match(said().join(), /no meal left in this plan\. That stops .*, not the algorithm/);
+});
+
+test("spans up to an end have nothing of what follows", () => {
+  const events = { sites: [0, 0, 0, 0], edges: [null, null, null, null], kinds: [..."hbeh"] };
+  const spans = new Spans(events, ["a"], [], 2);
+  assert.deepEqual([spans.length, spans.meals[0], spans.waits[0].length], [2, [{ from: 1, to: null }], 1]);
+  spans.extend(events, 3);
+  assert.deepEqual([spans.length, spans.meals[0][0].to, spans.waits[0].length], [3, 3, 1]);
+});
+
+test("each run that was recorded is a whole run of its plan", async () => {
+  for (const [path, run] of Object.entries(JSON.parse(textOf("page/runs.json")))) {
+    const list = numbersIn(run);
+    const { state, left } = await scheduleOf(path, list);
+    assert.deepEqual([state.events, state.enabled.length, left.count], [list.length, 0, 0]);
+  }
 });

@@ -67,6 +67,10 @@
 #ifndef POLITE
 #define POLITE 0
 #endif
+/* Those of them that are patient. */
+#ifndef PATIENT
+#define PATIENT 0
+#endif
 
 #define BIT(i) (1 << (i))
 /* of bell.rt: room_of */
@@ -99,16 +103,30 @@ byte ended = 0;           /* sites that have ended */
 #define PUT(k) assert(nfull(link[outgoing[AT(i)]])); link[outgoing[AT(i)]] ! k
 #define TAKE(i) assert(nempty(link[incoming[AT(i)]])); link[incoming[AT(i)]] ? kind
 
+/* The letter that comes next at place i is put off: the fork there is here and clean, none there is put off, and it is a
+   Request. Of a site that may resign the source takes it at once.
+   of running.rt: puts_off; of site.rt: SiteCore::may_put_off; of places.rt: Place::may_put_off,
+   ForkSlot::is_clean_in_hand */
+#ifdef BUG_PUTS_OFF_ALL
+#define PUTS_OFF(i) (!(put_off & BIT(i)) && nempty(link[incoming[AT(i)]]))
+#elif defined(NEVER_PUTS_OFF)
+#define PUTS_OFF(i) false
+#else
+#define PUTS_OFF(i) (!((put_off | away | dirty) & BIT(i)) && link[incoming[AT(i)]] ? [REQUEST])
+#endif
+
 /* A letter is taken only after its number was heard. So with MERGE it is put in the step that sends its number, and
    taken in the step that hears it, which leads to the same ends through fewer states. */
 #ifdef MERGE
 #define SEND(s, number) atomic { len(bell[s]) < CAPACITY(s) -> PUT(kind); bell[s] ! number }
-#define HEAR atomic { nempty(bell[me]) -> bell[me] ? number; TAKE(number) }
+#define HEAR atomic { nempty(bell[me]) -> bell[me] ? number; if :: PUTS_OFF(number) :: else -> TAKE(number) fi }
+#define RECALL atomic { recall(); TAKE(number) }
 #define PUT_BEFORE
 #define TAKE_AFTER
 #else
 #define SEND(s, number) atomic { len(bell[s]) < CAPACITY(s) -> bell[s] ! number }
 #define HEAR atomic { nempty(bell[me]) -> bell[me] ? number }
+#define RECALL recall()
 #define PUT_BEFORE PUT(kind);
 #define TAKE_AFTER TAKE(number);
 #endif
@@ -190,7 +208,7 @@ inline note(s, number, k) {
 
 /* Rings a neighbour's bell for a letter, and wakes the thread if it has to.
    of Runs.antt: RingsBell, WakesThread
-   of bell.rt: Ringer::ring_for, Ringer::sound, send_and_note */
+   of bell.rt: Ringer::ring_for, Ringer::sound_or_wait, Ringer::sound, send_and_note; of sleeper.rt: Waker::wake_if */
 inline ring_for(s, number, k) {
 #ifdef BUG_SEND_AFTER
   LOCK(s); note(s, number, k); UNLOCK(s);
@@ -214,7 +232,7 @@ inline ring_for(s, number, k) {
 
 /* Rings a bell that was full: waits for a place, and wakes the bell whatever it wants. Four places for each ringer are
    always enough, so that this is never reached then.
-   of bell.rt: Ringer::ring; of sleeper.rt: Waker::wake */
+   of bell.rt: Ringer::send, Ringer::ring, wake_and_note */
 inline ring(s, number) {
   assert(RINGS_EACH < 4);
   SEND(s, number);
@@ -261,8 +279,19 @@ inline next_event() {
   }
 }
 
+/* Sets `number` to the first place whose letter was put off and whose fork is dirty now.
+   of Runs.antt: HearsRing
+   of running.rt: recall */
+inline recall() {
+  d_step {
+    number = 0;
+    do :: (put_off & dirty & BIT(number)) == 0 -> number++ :: else -> break od;
+    put_off = put_off & ~BIT(number)
+  }
+}
+
 /* of Runs.antt: Acts, if the event is Begin or End
-   of running.rt: Running::eat, Running::begin */
+   of running.rt: Running::eat, Running::begin_meal */
 inline eat() {
   d_step {
     eating[me] = 1; i = 0;
@@ -330,11 +359,11 @@ inline take() {
   }
 }
 
-/* of running.rt: Running::work, Running::do_events, Running::act, Running::make_room, Running::perform,
-   Running::wait_and_take */
+/* of running.rt: Running::work, Running::do_events, Running::act, Running::make_room, Running::perform */
 proctype site(byte me; byte due) {
   byte away, dirty, tokens; /* the places whose fork is away, is here and dirty, and whose token is here */
   byte open, said, heard, gone; /* the places without a Close by this site, with its Done, with the other Done, Close */
+  byte put_off = 0; /* the places that rang and whose letter was put off */
   byte ate = 0;
   bit hungry = 0, wakes, early;
   byte i, kind, number, word, set;
@@ -357,12 +386,16 @@ go_on:
   if
   :: kind == BEGIN ->
 #if POLITE
-     /* A polite site eats only if a check of its bell finds no ring, and it never sleeps there.
-        of running.rt: Running::begin, Running::check_bell, Running::take_where_rung; of bell.rt: Bell::check */
+     /* A polite site eats only if no letter that was put off matters and a check of its bell finds no ring, and it never
+        sleeps there. A patient one, which is in PATIENT too, checks or does not; so this stands for any patience.
+        of running.rt: Running::begin, Running::check_bell, Running::take_where_rung, Running::take_recalled, recall_before_meal, is_checking,
+        skips_then
+        of bell.rt: Bell::check */
      if
-     :: (POLITE & BIT(me)) == 0
-     :: (POLITE & BIT(me)) && empty(bell[me])
-     :: atomic { (POLITE & BIT(me)) && nempty(bell[me]) -> HEAR };
+     :: (POLITE & BIT(me)) == 0 || (PATIENT & BIT(me))
+     :: (POLITE & BIT(me)) && (put_off & dirty) -> RECALL; goto heard_one
+     :: (POLITE & BIT(me)) && !(put_off & dirty) && empty(bell[me])
+     :: atomic { (POLITE & BIT(me)) && !(put_off & dirty) && nempty(bell[me]) -> HEAR };
 #ifdef BUG_CHECK_DROPS
         number = 0; goto go_on
 #else
@@ -380,7 +413,15 @@ hear:
   :: IS_DONE && gone == BIT(degree[me]) - 1 && open == 0 -> goto finished
   :: else
   fi;
+#ifndef BUG_NO_RECALL
+  /* of running.rt: Running::wait_and_take */
+  if
+  :: put_off & dirty -> RECALL; goto heard_one
+  :: else
+  fi;
+#endif
   /* of Runs.antt: HearsRing
+     of running.rt: Running::hear_and_take
      of bell.rt: Bell::wait_for, Bell::next_ring, Bell::fall_asleep, next_ring_or_sleep */
   if
   :: HEAR; goto heard_one
@@ -401,6 +442,10 @@ hear:
 #endif
   HEAR;
 heard_one:
+  if
+  :: PUTS_OFF(number) -> atomic { put_off = put_off | BIT(number); number = 0; goto go_on }
+  :: else
+  fi;
   MAY_BREAK;
   assert(!(gone & BIT(number)));
   take();
@@ -430,7 +475,7 @@ broken: /* of running.rt: Running::break_off, Running::break_at */
 finished:
   skip;
   d_step {
-    assert(empty(bell[me]) && ate == due && said == BIT(degree[me]) - 1 && heard == said);
+    assert(empty(bell[me]) && put_off == 0 && ate == due && said == BIT(degree[me]) - 1 && heard == said);
     ended++; kind = 0; i = 0
   };
 over:

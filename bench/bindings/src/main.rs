@@ -1,21 +1,19 @@
 //! Measures the Rust crate: `cargo run --release --offline -- [MEALS] [ROUNDS] [GRAPH..]` prints two tables.
 //!
 //! The first has what a call costs. In the second workers with jobs of 0, 1 and 20 microseconds add to the values of
-//! their edges: by `Table`, polite and eager, and by mutexes of std that each worker locks in one order. If DINE_BENCH is
-//! the path of the program of crates/dine_bench, its `run` does as many meals, with jobs that count TURNS turns for each
-//! microsecond, and no values. A time is that of all, threads included, for each meal; a ratio is of one round, and the
-//! middle one counts. Run it without other work.
+//! their edges, a thread for each worker: by mutexes of std that each worker locks in one order, by those of parking_lot,
+//! and by `eat` of an open table with a patience of 0, 4 and 64. A time is that of all, threads included, for each meal; a
+//! ratio is of one round, and the middle one counts. The longest wait of any worker for a meal is the middle one too. Run
+//! it without other work.
 use dine::{Event, Kind, Plan, Site, Table, World};
 use std::hint::black_box;
-use std::io::Write;
-use std::process::{Command, Stdio};
+use std::sync::atomic::{AtomicU64, Ordering};
 use std::sync::Mutex;
 use std::time::{Duration, Instant};
 
 const JOBS: [u64; 3] = [0, 1, 20];
 const GRAPHS: [&str; 4] = ["ring:5", "ring:64", "grid:8", "complete:16"];
-// The turns of a job of `run` that take about a microsecond.
-const TURNS: u64 = 500;
+const PATIENCE: [u32; 3] = [0, 4, 64];
 // The jobs of each site of the worlds whose calls are measured.
 const EACH: usize = 200;
 
@@ -55,55 +53,78 @@ fn work(us: u64) {
     }
 }
 
-fn by_table(graph: &Graph, meals: u32, us: u64, is_eager: bool) -> (Duration, u64) {
-    let mut table = Table::new();
-    let ids: Vec<_> = (0..graph.workers).map(|i| table.worker(&format!("w{i}"), meals)).collect();
-    for (i, j) in &graph.edges {
-        table.edge(ids[*i], ids[*j], 0u64);
-    }
-    if is_eager {
-        table.eager();
-    }
-    let start = Instant::now();
-    let done = table.run(&(), |meal| {
-        work(us);
-        meal.values().for_each(|(_, value)| *value += 1);
-        Ok::<(), ()>(())
-    });
-    let took = start.elapsed();
-    (took, done.expect("the table runs").into_values().iter().sum())
+/// What a way took, the sum of its values, and its longest wait.
+struct Took {
+    time: Duration,
+    sum: u64,
+    longest: Duration,
 }
 
-fn by_mutexes(graph: &Graph, meals: u32, us: u64) -> (Duration, u64) {
-    let values: Vec<_> = graph.edges.iter().map(|_| Mutex::new(0u64)).collect();
+/// Runs a thread for each worker, each of which does this for each of its meals and returns when its wait was over.
+fn threads(graph: &Graph, meals: u32, meal: impl Fn(usize) -> Instant + Sync) -> (Duration, Duration) {
+    let longest = AtomicU64::new(0);
     let start = Instant::now();
     std::thread::scope(|scope| {
         for worker in 0..graph.workers {
-            let ends = graph.edges.iter().zip(&values);
-            let mine: Vec<_> = ends.filter(|(ends, _)| ends.0 == worker || ends.1 == worker).map(|it| it.1).collect();
+            let (meal, longest) = (&meal, &longest);
             scope.spawn(move || {
+                let mut mine = Duration::ZERO;
                 for _ in 0..meals {
-                    let mut held: Vec<_> = mine.iter().map(|it| it.lock().expect("no panic")).collect();
-                    work(us);
-                    held.iter_mut().for_each(|value| **value += 1);
+                    let asked = Instant::now();
+                    mine = mine.max(meal(worker) - asked);
                 }
+                longest.fetch_max(mine.as_nanos() as u64, Ordering::Relaxed);
             });
         }
     });
-    (start.elapsed(), values.iter().map(|it| *it.lock().expect("no panic")).sum())
+    (start.elapsed(), Duration::from_nanos(longest.into_inner()))
 }
 
-/// Returns how long `run` takes in Rattle, by the program of dine_bench.
-fn by_run(program: &str, graph: &Graph, meals: u32, us: u64, manner: &str) -> Duration {
-    let mut command = Command::new(program);
-    command.args(["ring", "1", "--manner", manner]).stdin(Stdio::piped()).stdout(Stdio::piped()).stderr(Stdio::piped());
-    let mut child = command.spawn().expect("DINE_BENCH is a program");
-    let plan = plan_text(graph, meals as usize, us * TURNS);
-    child.stdin.take().expect("a pipe").write_all(plan.as_bytes()).expect("it reads the plan");
-    let said = String::from_utf8(child.wait_with_output().expect("it ends").stderr).expect("a text");
-    let median = said.split_whitespace().find_map(|it| it.strip_prefix("median=")).expect("it prints the median");
-    Duration::from_micros(median.parse().expect("a number"))
+fn by_table(graph: &Graph, meals: u32, us: u64, patience: u32) -> Took {
+    let mut table = Table::new();
+    table.patience(patience).keep_log(0);
+    let ids: Vec<_> = (0..graph.workers).map(|i| table.worker(&format!("w{i}")).expect("a name")).collect();
+    for (i, j) in &graph.edges {
+        table.edge(ids[*i], ids[*j], 0u64).expect("an edge");
+    }
+    let open = table.open().expect("a table");
+    let (time, longest) = threads(graph, meals, |worker| {
+        let mut meal = open.lock(ids[worker]).expect("it is open");
+        let begun = Instant::now();
+        work(us);
+        meal.values().for_each(|(_, value)| *value += 1);
+        begun
+    });
+    Took { time, sum: open.close().expect("it is open").into_values().iter().sum(), longest }
 }
+
+macro_rules! by_mutexes {
+    ($name:ident, $mutex:ty, $lock:expr) => {
+        fn $name(graph: &Graph, meals: u32, us: u64) -> Took {
+            let values: Vec<_> = graph.edges.iter().map(|_| <$mutex>::new(0u64)).collect();
+            let mine = |worker| {
+                let ends = graph.edges.iter().zip(&values);
+                ends.filter(move |(ends, _)| ends.0 == worker || ends.1 == worker).map(|it| it.1).collect::<Vec<_>>()
+            };
+            let each: Vec<Vec<_>> = (0..graph.workers).map(mine).collect();
+            let (time, longest) = threads(graph, meals, |worker| {
+                let mut held: Vec<_> = each[worker].iter().map(|it| $lock(it)).collect();
+                let begun = Instant::now();
+                work(us);
+                held.iter_mut().for_each(|value| **value += 1);
+                begun
+            });
+            Took { time, sum: values.iter().map(|it| *$lock(it)).sum(), longest }
+        }
+    };
+}
+
+fn lock_std(mutex: &Mutex<u64>) -> std::sync::MutexGuard<'_, u64> {
+    mutex.lock().expect("no panic")
+}
+
+by_mutexes!(by_std, Mutex<u64>, lock_std);
+by_mutexes!(by_parking_lot, parking_lot::Mutex<u64>, parking_lot::Mutex::lock);
 
 /// Returns the middle one of some numbers.
 fn middle(mut numbers: Vec<f64>) -> f64 {
@@ -111,32 +132,26 @@ fn middle(mut numbers: Vec<f64>) -> f64 {
     numbers[numbers.len() / 2]
 }
 
-/// Returns the line of a graph and a job: microseconds a meal by mutexes, and the ratios of the others to them.
+/// Returns the line of a graph and a job: microseconds a meal by mutexes of std, the ratios of the others to them, and
+/// the longest waits.
 fn row(name: &str, graph: &Graph, meals: u32, us: u64, rounds: usize) -> String {
     let wanted = 2 * graph.edges.len() as u64 * u64::from(meals);
-    let checked = |(took, sum): (Duration, u64)| {
-        assert_eq!(sum, wanted, "a meal got lost");
-        took
-    };
-    let program = std::env::var("DINE_BENCH").ok();
-    let mut ways: Vec<Box<dyn Fn() -> Duration>> = vec![
-        Box::new(|| checked(by_mutexes(graph, meals, us))),
-        Box::new(|| checked(by_table(graph, meals, us, false))),
-        Box::new(|| checked(by_table(graph, meals, us, true))),
-    ];
-    if let Some(program) = &program {
-        ways.push(Box::new(|| by_run(program, graph, meals, us, "polite")));
-        ways.push(Box::new(|| by_run(program, graph, meals, us, "eager")));
+    let mut ways: Vec<Box<dyn Fn() -> Took + '_>> =
+        vec![Box::new(|| by_std(graph, meals, us)), Box::new(|| by_parking_lot(graph, meals, us))];
+    for patience in PATIENCE {
+        ways.push(Box::new(move || by_table(graph, meals, us, patience)));
     }
-    let times: Vec<Vec<f64>> =
-        (0..rounds).map(|_| ways.iter().map(|way| way().as_secs_f64() * 1e6).collect()).collect();
+    let round = |_| ways.iter().map(|way| way()).inspect(|it| assert_eq!(it.sum, wanted, "a meal got lost")).collect();
+    let rounds: Vec<Vec<Took>> = (0..rounds).map(round).collect();
     let all_meals = graph.workers as f64 * f64::from(meals);
-    let mut line = format!("| {name} | {us} µs | {:.2} |", middle(times.iter().map(|it| it[0] / all_meals).collect()));
-    for way in 1..5 {
-        let ratios: Option<Vec<f64>> = times.iter().map(|it| Some(it.get(way)? / it[0])).collect();
-        line += &ratios.map_or(" |".to_string(), |it| format!(" {:.2} |", middle(it)));
+    let times = rounds.iter().map(|it| it[0].time.as_secs_f64() * 1e6 / all_meals).collect();
+    let mut line = format!("| {name} | {us} µs | {:.2} |", middle(times));
+    for way in 1..ways.len() {
+        let ratio = |it: &Vec<Took>| it[way].time.as_secs_f64() / it[0].time.as_secs_f64();
+        line += &format!(" {:.2} |", middle(rounds.iter().map(ratio).collect()));
     }
-    line
+    let wait = |way: usize| middle(rounds.iter().map(|it| it[way].longest.as_secs_f64() * 1e3).collect());
+    line + &(0..ways.len()).map(|way| format!(" {:.1} |", wait(way))).collect::<String>()
 }
 
 /// Returns nanoseconds for each of n things.
@@ -213,8 +228,8 @@ fn main() {
     let named: Vec<&str> = words.iter().skip(2).map(String::as_str).collect();
     let asked = if named.is_empty() { GRAPHS.to_vec() } else { named };
     calls(rounds);
-    println!("\n| Workers | Job | µs a meal, mutexes | `Table`, polite | Eager | `run`, polite | Eager |");
-    println!("|---|---|---|---|---|---|---|");
+    println!("\n| Workers | Job | µs a meal, std | parking_lot | patience 0 | 4 | 64 | longest wait, ms: std | parking_lot | 0 | 4 | 64 |");
+    println!("|{}", "---|".repeat(12));
     for name in asked {
         let graph = graph(name).expect("ring:N, grid:SIDE or complete:N");
         for us in JOBS {

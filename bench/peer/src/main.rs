@@ -1,7 +1,7 @@
 //! The hygienic solution of the dining philosophers (Chandy and Misra, ACM TOPLAS 6(4), 1984) written by hand in Rust,
 //! without proofs, to measure `run` and `replay` beside it.
 //!
-//!     peer [overtakes] channel|ring|quiet|polite|queue|mutex|parking_lot|fair|desk GRAPH JOBS TURNS RUNS
+//!     peer [overtakes|waits] channel|ring|quiet|polite|queue|mutex|parking_lot|fair|desk GRAPH JOBS TURNS RUNS
 //!
 //! The first four kinds and `queue` have the rules of the paper:
 //!
@@ -27,8 +27,9 @@
 //! the events, the letters, and how often a site was woken, which only quiet and polite count.
 //!
 //! With `overtakes` it also prints how often a neighbour began a meal between a site's hunger and its meal, and
-//! between its ask and its meal: the largest number and the mean, and the number of asks, of all runs. To note that
-//! makes a run slower, so these times are not to be compared.
+//! between its ask and its meal: the largest number and the mean, and the number of asks, of all runs. With `waits` it
+//! also prints the longest wait of a site from its hunger to its meal, in microseconds, in the middle one of all runs;
+//! the first meal of a site is left out. To note that makes a run slower, so these times are not to be compared.
 
 mod fair;
 mod locks;
@@ -43,22 +44,23 @@ use plan::Plan;
 use site::Ran;
 use std::process::ExitCode;
 use std::time::Instant;
-use turns::{overtakes, Blind, Noting, Overtakes, Watch};
+use turns::{longest_wait, overtakes, Blind, Noting, Overtakes, Timing, Watch};
 
 const USAGE: &str =
-    "usage: peer [overtakes] channel|ring|quiet|polite|queue|mutex|parking_lot|fair|desk GRAPH JOBS TURNS RUNS";
+    "usage: peer [overtakes|waits] channel|ring|quiet|polite|queue|mutex|parking_lot|fair|desk GRAPH JOBS TURNS RUNS";
 
 fn main() -> ExitCode {
     let words: Vec<String> = std::env::args().skip(1).collect();
-    let (is_counted, words) = match words.split_first() {
-        Some((first, rest)) if first == "overtakes" => (true, rest),
-        _ => (false, &words[..]),
+    let (noted, words) = match words.split_first() {
+        Some((first, rest)) if first == "overtakes" || first == "waits" => (first.as_str(), rest),
+        _ => ("", &words[..]),
     };
-    let Some((kind, plan, runs)) = read(words, is_counted) else {
+    let Some((kind, plan, runs)) = read(words, noted) else {
         eprintln!("{USAGE}");
         return ExitCode::from(2);
     };
     let mut times = Vec::new();
+    let mut waits = Vec::new();
     let mut counts = String::new();
     let mut overtaken = Overtakes::default();
     for _ in 0..runs {
@@ -69,6 +71,7 @@ fn main() -> ExitCode {
         for (fork, &edge) in forks.iter().zip(&plan.edges) {
             fork.check(edge, plan.jobs);
         }
+        waits.push(longest_wait(&notes) / 1000);
         let found = overtakes(&plan, notes);
         overtaken.since_hunger.join(found.since_hunger);
         overtaken.since_ask.join(found.since_ask);
@@ -76,7 +79,11 @@ fn main() -> ExitCode {
         let events = 2 * letters + 3 * plan.jobs * plan.sites as u64;
         counts = format!("events={events} letters={letters} wakes={wakes}");
     }
-    if is_counted {
+    if noted == "waits" {
+        waits.sort_unstable();
+        counts += &format!(" wait={}", waits[waits.len() / 2]);
+    }
+    if noted == "overtakes" {
         let Overtakes { since_hunger, since_ask } = overtaken;
         counts += &format!(
             " hunger_most={} hunger_mean={:.3} ask_most={} ask_mean={:.3} asks={}",
@@ -113,11 +120,15 @@ fn kind_of<W: Watch>(name: &str) -> Option<Kind> {
     })
 }
 
-fn read(words: &[String], is_counted: bool) -> Option<(Kind, Plan, usize)> {
+fn read(words: &[String], noted: &str) -> Option<(Kind, Plan, usize)> {
     let [kind, graph, jobs, turns, runs] = words else {
         return None;
     };
-    let kind = if is_counted { kind_of::<Noting>(kind) } else { kind_of::<Blind>(kind) }?;
+    let kind = match noted {
+        "overtakes" => kind_of::<Noting>(kind),
+        "waits" => kind_of::<Timing>(kind),
+        _ => kind_of::<Blind>(kind),
+    }?;
     let runs = runs.parse().ok().filter(|runs| *runs > 0)?;
     Some((kind, Plan::of(graph, jobs.parse().ok()?, turns.parse().ok()?)?, runs))
 }
@@ -160,6 +171,17 @@ mod tests {
                     assert!(found.since_ask.most <= 1, "{kind}: {found:?}");
                 }
             }
+        }
+    }
+
+    /// One wait for each site, and some wait is longer than none.
+    #[test]
+    fn waits_are_noted_once_for_each_site() {
+        let plan = Plan::of("ring:5", 300, 100).unwrap();
+        for kind in ["quiet", "polite", "mutex", "parking_lot", "fair"] {
+            let notes = kind_of::<Timing>(kind).unwrap()(&plan).notes;
+            assert_eq!(notes.len(), 5);
+            assert!(longest_wait(&notes) > 0, "{kind}");
         }
     }
 

@@ -12,6 +12,7 @@
 use crate::plan::Plan;
 use std::sync::atomic::{AtomicU64, Ordering};
 use std::sync::Arc;
+use std::time::Instant;
 
 #[derive(Clone, Copy)]
 pub enum What {
@@ -19,6 +20,8 @@ pub enum What {
     /// At this edge.
     Ask(usize),
     Begin,
+    /// It had waited for this number of nanoseconds.
+    Waited(u64),
 }
 
 /// What a site did, and its number in the order of what all sites noted.
@@ -94,6 +97,42 @@ impl Watch for Noting {
     }
 }
 
+/// Keeps the longest wait of a site for a meal, by a clock, and notes it at the end. The first meal is left out: its wait
+/// has the start of the threads in it.
+pub struct Timing {
+    site: usize,
+    since: Option<Instant>,
+    is_first: bool,
+    longest: u64,
+}
+
+impl Watch for Timing {
+    fn new(site: usize, _: &Arc<AtomicU64>) -> Self {
+        Timing { site, since: None, is_first: true, longest: 0 }
+    }
+    fn hungry(&mut self) {
+        if !self.is_first && self.since.is_none() {
+            self.since = Some(Instant::now());
+        }
+    }
+    fn ask(&mut self, _: usize) {}
+    fn begin(&mut self) {
+        self.is_first = false;
+        if let Some(since) = self.since.take() {
+            self.longest = self.longest.max(since.elapsed().as_nanos() as u64);
+        }
+    }
+    fn into_notes(self) -> Vec<Note> {
+        vec![Note { at: 0, site: self.site, what: What::Waited(self.longest) }]
+    }
+}
+
+/// Returns the longest wait in the notes of all sites, in nanoseconds.
+pub fn longest_wait(notes: &[Note]) -> u64 {
+    let waits = notes.iter().map(|note| if let What::Waited(nanos) = note.what { nanos } else { 0 });
+    waits.max().unwrap_or(0)
+}
+
 /// The largest of some counts, their sum, and how many they are.
 #[derive(Clone, Copy, Debug, Default, PartialEq)]
 pub struct Counts {
@@ -145,6 +184,7 @@ pub fn overtakes(plan: &Plan, mut notes: Vec<Note>) -> Overtakes {
                     by_hunger[edge][end_of(site, edge)] = begun[neighbour_of(site, edge)];
                 }
             }
+            What::Waited(_) => {}
             What::Ask(edge) => by_ask[edge][end_of(site, edge)] = Some(begun[neighbour_of(site, edge)]),
             What::Begin => {
                 begun[site] += 1;
@@ -218,6 +258,28 @@ mod tests {
         // Site 0 had its second meal without an ask, and nobody was overtaken.
         assert_eq!(found.since_ask, counts(0, 0, 1));
         assert_eq!(found.since_hunger, counts(0, 0, 3));
+    }
+
+    #[test]
+    fn the_longest_wait_is_from_the_first_hunger_and_not_of_the_first_meal() {
+        let nap = || std::thread::sleep(std::time::Duration::from_millis(2));
+        let mut watch = Timing::new(0, &Arc::default());
+        watch.hungry();
+        nap();
+        watch.begin();
+        assert_eq!(watch.longest, 0);
+        watch.hungry();
+        nap();
+        watch.hungry();
+        nap();
+        watch.begin();
+        let longest = watch.longest;
+        assert!(longest >= 4_000_000);
+        watch.hungry();
+        watch.begin();
+        let mut notes = watch.into_notes();
+        notes.extend(Timing::new(1, &Arc::default()).into_notes());
+        assert!(longest_wait(&notes) >= longest);
     }
 
     #[test]

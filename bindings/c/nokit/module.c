@@ -597,13 +597,13 @@ static void init_func_types(void) {
   func_types[14] = wasm_rt_register_func_type(5, 0, WASM_RT_I64, WASM_RT_I64, WASM_RT_I64, WASM_RT_I32, WASM_RT_I32);
   func_types[15] = wasm_rt_register_func_type(2, 1, WASM_RT_I64, WASM_RT_I32, WASM_RT_I32);
   func_types[16] = wasm_rt_register_func_type(4, 0, WASM_RT_I64, WASM_RT_I64, WASM_RT_I64, WASM_RT_I32);
-  func_types[17] = wasm_rt_register_func_type(8, 0, WASM_RT_I64, WASM_RT_I64, WASM_RT_I64, WASM_RT_I64, WASM_RT_I64, WASM_RT_I64, WASM_RT_I64, WASM_RT_I64);
-  func_types[18] = wasm_rt_register_func_type(6, 0, WASM_RT_I64, WASM_RT_I64, WASM_RT_I64, WASM_RT_I64, WASM_RT_I64, WASM_RT_I64);
-  func_types[19] = wasm_rt_register_func_type(6, 1, WASM_RT_I64, WASM_RT_I32, WASM_RT_I64, WASM_RT_I64, WASM_RT_I64, WASM_RT_I64, WASM_RT_I64);
-  func_types[20] = wasm_rt_register_func_type(5, 0, WASM_RT_I64, WASM_RT_I64, WASM_RT_I32, WASM_RT_I64, WASM_RT_I64);
-  func_types[21] = wasm_rt_register_func_type(3, 0, WASM_RT_I64, WASM_RT_I32, WASM_RT_I64);
-  func_types[22] = wasm_rt_register_func_type(4, 0, WASM_RT_I64, WASM_RT_I64, WASM_RT_I32, WASM_RT_I64);
-  func_types[23] = wasm_rt_register_func_type(4, 1, WASM_RT_I64, WASM_RT_I64, WASM_RT_I64, WASM_RT_I64, WASM_RT_I64);
+  func_types[17] = wasm_rt_register_func_type(4, 1, WASM_RT_I64, WASM_RT_I64, WASM_RT_I64, WASM_RT_I64, WASM_RT_I64);
+  func_types[18] = wasm_rt_register_func_type(8, 0, WASM_RT_I64, WASM_RT_I64, WASM_RT_I64, WASM_RT_I64, WASM_RT_I64, WASM_RT_I64, WASM_RT_I64, WASM_RT_I64);
+  func_types[19] = wasm_rt_register_func_type(6, 0, WASM_RT_I64, WASM_RT_I64, WASM_RT_I64, WASM_RT_I64, WASM_RT_I64, WASM_RT_I64);
+  func_types[20] = wasm_rt_register_func_type(6, 1, WASM_RT_I64, WASM_RT_I32, WASM_RT_I64, WASM_RT_I64, WASM_RT_I64, WASM_RT_I64, WASM_RT_I64);
+  func_types[21] = wasm_rt_register_func_type(5, 0, WASM_RT_I64, WASM_RT_I64, WASM_RT_I32, WASM_RT_I64, WASM_RT_I64);
+  func_types[22] = wasm_rt_register_func_type(3, 0, WASM_RT_I64, WASM_RT_I32, WASM_RT_I64);
+  func_types[23] = wasm_rt_register_func_type(4, 0, WASM_RT_I64, WASM_RT_I64, WASM_RT_I32, WASM_RT_I64);
   func_types[24] = wasm_rt_register_func_type(0, 0);
 }
 
@@ -680,18 +680,19 @@ static void w2c_f69(Z_dine_ffi_instance_t*, u64);
 static void w2c_f70(Z_dine_ffi_instance_t*, u64, u64, u32);
 static void w2c_f71(Z_dine_ffi_instance_t*, u64, u64);
 static void w2c_f72(Z_dine_ffi_instance_t*, u64, u64);
-static void w2c_f73(Z_dine_ffi_instance_t*, u64, u64);
-static void w2c_f74(Z_dine_ffi_instance_t*, u64, u64, u32);
+static u64 w2c_f73(Z_dine_ffi_instance_t*, u64, u32, u64, u64);
+static void w2c_f74(Z_dine_ffi_instance_t*, u64, u64);
 static void w2c_f75(Z_dine_ffi_instance_t*, u64, u64, u32);
-static void w2c_f76(Z_dine_ffi_instance_t*, u64, u64, u32, u64, u64);
-static void w2c_f77(Z_dine_ffi_instance_t*, u64);
-static u32 w2c_f78(Z_dine_ffi_instance_t*, u64, u32);
-static void w2c_f79(Z_dine_ffi_instance_t*, u64, u64, u32);
-static void w2c_f80(Z_dine_ffi_instance_t*, u64, u64);
-static void w2c_f81(Z_dine_ffi_instance_t*, u64, u32, u64);
-static void w2c_f82(Z_dine_ffi_instance_t*, u64, u64, u32);
-static void w2c_f83(Z_dine_ffi_instance_t*, u64, u64, u32, u64);
-static u32 w2c_f84(Z_dine_ffi_instance_t*, u64, u64, u64);
+static void w2c_f76(Z_dine_ffi_instance_t*, u64, u64, u32);
+static void w2c_f77(Z_dine_ffi_instance_t*, u64, u64, u32, u64, u64);
+static void w2c_f78(Z_dine_ffi_instance_t*, u64);
+static u32 w2c_f79(Z_dine_ffi_instance_t*, u64, u32);
+static void w2c_f80(Z_dine_ffi_instance_t*, u64, u64, u32);
+static void w2c_f81(Z_dine_ffi_instance_t*, u64, u64);
+static void w2c_f82(Z_dine_ffi_instance_t*, u64, u32, u64);
+static void w2c_f83(Z_dine_ffi_instance_t*, u64, u64, u32);
+static void w2c_f84(Z_dine_ffi_instance_t*, u64, u64, u32, u64);
+static u32 w2c_f85(Z_dine_ffi_instance_t*, u64, u64, u64);
 static u64 w2c_dine_raw_plan_open(Z_dine_ffi_instance_t*, u64, u64, u64);
 static u64 w2c_dine_raw_close(Z_dine_ffi_instance_t*, u64);
 static u64 w2c_dine_raw_plan_edges(Z_dine_ffi_instance_t*, u64);
@@ -700,6 +701,7 @@ static u64 w2c_dine_raw_plan_jobs(Z_dine_ffi_instance_t*, u64, u32);
 static u64 w2c_dine_raw_plan_name(Z_dine_ffi_instance_t*, u64, u32, u64, u64);
 static u64 w2c_dine_raw_plan_sites(Z_dine_ffi_instance_t*, u64);
 static u64 w2c_dine_raw_plan_version(Z_dine_ffi_instance_t*, u64);
+static u64 w2c_dine_raw_site_act(Z_dine_ffi_instance_t*, u64, u64, u64, u64);
 static u64 w2c_dine_raw_site_ask(Z_dine_ffi_instance_t*, u64, u32, u64, u64);
 static u64 w2c_dine_raw_site_begin(Z_dine_ffi_instance_t*, u64);
 static u64 w2c_dine_raw_site_break(Z_dine_ffi_instance_t*, u64, u32, u64, u64);
@@ -728,13 +730,15 @@ static u64 w2c_dine_raw_site_take(Z_dine_ffi_instance_t*, u64, u64, u64);
 static u64 w2c_dine_raw_site_fork(Z_dine_ffi_instance_t*, u64, u32, u64, u64);
 static u64 w2c_dine_raw_world_fork(Z_dine_ffi_instance_t*, u64, u32, u64, u64);
 static u64 w2c_dine_raw_plan_refusal(Z_dine_ffi_instance_t*, u64, u64, u64, u64);
-static void w2c_f121(Z_dine_ffi_instance_t*, u64, u64);
+static void w2c_f123(Z_dine_ffi_instance_t*, u64, u64);
+static u64 w2c_f124(Z_dine_ffi_instance_t*, u64);
+static void w2c_f125(Z_dine_ffi_instance_t*, u64);
 static void w2c_leave(Z_dine_ffi_instance_t*, u64);
-static void w2c_f123(Z_dine_ffi_instance_t*, u64, u64, u64, u64);
+static void w2c_f127(Z_dine_ffi_instance_t*, u64, u64, u64, u64);
 static u64 w2c_room(Z_dine_ffi_instance_t*, u64);
 static void w2c_reset(Z_dine_ffi_instance_t*);
-static void w2c_f126(Z_dine_ffi_instance_t*, u64, u64, u64, u64);
-static void w2c_f127(Z_dine_ffi_instance_t*, u64, u64, u64, u32);
+static void w2c_f130(Z_dine_ffi_instance_t*, u64, u64, u64, u64);
+static void w2c_f131(Z_dine_ffi_instance_t*, u64, u64, u64, u32);
 
 static void init_globals(Z_dine_ffi_instance_t* instance) {
   instance->w2c_g0 = 1048576ull;
@@ -3964,7 +3968,7 @@ static void w2c_f0(Z_dine_ffi_instance_t* instance, u64 w2c_p0, u64 w2c_p1, u64 
       w2c_j2 = 24ull;
       w2c_j1 += w2c_j2;
       w2c_j2 = w2c_l13;
-      w2c_f121(instance, w2c_j1, w2c_j2);
+      w2c_f123(instance, w2c_j1, w2c_j2);
       w2c_j1 = w2c_l7;
       w2c_i1 = (u32)(w2c_j1);
       w2c_j1 = i64_load(&instance->w2c_memory, (u64)(w2c_i1) + 24u);
@@ -7985,7 +7989,7 @@ static void w2c_f0(Z_dine_ffi_instance_t* instance, u64 w2c_p0, u64 w2c_p1, u64 
     w2c_j1 = 192ull;
     w2c_j0 += w2c_j1;
     w2c_j1 = 312ull;
-    w2c_f121(instance, w2c_j0, w2c_j1);
+    w2c_f123(instance, w2c_j0, w2c_j1);
     w2c_j0 = w2c_l3;
     w2c_i0 = (u32)(w2c_j0);
     w2c_j0 = i64_load(&instance->w2c_memory, (u64)(w2c_i0) + 192u);
@@ -8174,7 +8178,7 @@ static void w2c_f0(Z_dine_ffi_instance_t* instance, u64 w2c_p0, u64 w2c_p1, u64 
       w2c_j3 = 176ull;
       w2c_j2 += w2c_j3;
       w2c_j3 = 440ull;
-      w2c_f121(instance, w2c_j2, w2c_j3);
+      w2c_f123(instance, w2c_j2, w2c_j3);
       w2c_j2 = w2c_l3;
       w2c_i2 = (u32)(w2c_j2);
       w2c_j2 = i64_load(&instance->w2c_memory, (u64)(w2c_i2) + 176u);
@@ -8408,7 +8412,7 @@ static void w2c_f0(Z_dine_ffi_instance_t* instance, u64 w2c_p0, u64 w2c_p1, u64 
             w2c_j3 = 144ull;
             w2c_j2 += w2c_j3;
             w2c_j3 = 312ull;
-            w2c_f121(instance, w2c_j2, w2c_j3);
+            w2c_f123(instance, w2c_j2, w2c_j3);
             w2c_j2 = w2c_l3;
             w2c_i2 = (u32)(w2c_j2);
             w2c_j2 = i64_load(&instance->w2c_memory, (u64)(w2c_i2) + 144u);
@@ -8426,7 +8430,7 @@ static void w2c_f0(Z_dine_ffi_instance_t* instance, u64 w2c_p0, u64 w2c_p1, u64 
           w2c_j3 = 160ull;
           w2c_j2 += w2c_j3;
           w2c_j3 = 440ull;
-          w2c_f121(instance, w2c_j2, w2c_j3);
+          w2c_f123(instance, w2c_j2, w2c_j3);
           w2c_j2 = w2c_l3;
           w2c_i2 = (u32)(w2c_j2);
           w2c_j2 = i64_load(&instance->w2c_memory, (u64)(w2c_i2) + 160u);
@@ -11556,7 +11560,7 @@ static void w2c_f0(Z_dine_ffi_instance_t* instance, u64 w2c_p0, u64 w2c_p1, u64 
       w2c_j1 = 80ull;
       w2c_j0 += w2c_j1;
       w2c_j1 = w2c_l20;
-      w2c_f121(instance, w2c_j0, w2c_j1);
+      w2c_f123(instance, w2c_j0, w2c_j1);
       w2c_j0 = w2c_l3;
       w2c_i0 = (u32)(w2c_j0);
       w2c_j0 = i64_load(&instance->w2c_memory, (u64)(w2c_i0) + 80u);
@@ -12348,7 +12352,7 @@ static void w2c_f0(Z_dine_ffi_instance_t* instance, u64 w2c_p0, u64 w2c_p1, u64 
       w2c_j1 = w2c_l24;
       w2c_j2 = 56ull;
       w2c_j1 *= w2c_j2;
-      w2c_f121(instance, w2c_j0, w2c_j1);
+      w2c_f123(instance, w2c_j0, w2c_j1);
       w2c_j0 = w2c_l3;
       w2c_i0 = (u32)(w2c_j0);
       w2c_j0 = i64_load(&instance->w2c_memory, (u64)(w2c_i0) + 64u);
@@ -14282,7 +14286,7 @@ static void w2c_f0(Z_dine_ffi_instance_t* instance, u64 w2c_p0, u64 w2c_p1, u64 
     w2c_j2 = 48ull;
     w2c_j1 += w2c_j2;
     w2c_j2 = 248ull;
-    w2c_f121(instance, w2c_j1, w2c_j2);
+    w2c_f123(instance, w2c_j1, w2c_j2);
     w2c_j1 = w2c_l3;
     w2c_i1 = (u32)(w2c_j1);
     w2c_j1 = i64_load(&instance->w2c_memory, (u64)(w2c_i1) + 48u);
@@ -14474,7 +14478,7 @@ static void w2c_f0(Z_dine_ffi_instance_t* instance, u64 w2c_p0, u64 w2c_p1, u64 
       w2c_j3 = 32ull;
       w2c_j2 += w2c_j3;
       w2c_j3 = 376ull;
-      w2c_f121(instance, w2c_j2, w2c_j3);
+      w2c_f123(instance, w2c_j2, w2c_j3);
       w2c_j2 = w2c_l3;
       w2c_i2 = (u32)(w2c_j2);
       w2c_j2 = i64_load(&instance->w2c_memory, (u64)(w2c_i2) + 32u);
@@ -14698,7 +14702,7 @@ static void w2c_f0(Z_dine_ffi_instance_t* instance, u64 w2c_p0, u64 w2c_p1, u64 
           if (w2c_i2) {
             w2c_j2 = w2c_l3;
             w2c_j3 = 248ull;
-            w2c_f121(instance, w2c_j2, w2c_j3);
+            w2c_f123(instance, w2c_j2, w2c_j3);
             w2c_j2 = w2c_l3;
             w2c_i2 = (u32)(w2c_j2);
             w2c_j2 = i64_load(&instance->w2c_memory, (u64)(w2c_i2));
@@ -14716,7 +14720,7 @@ static void w2c_f0(Z_dine_ffi_instance_t* instance, u64 w2c_p0, u64 w2c_p1, u64 
           w2c_j3 = 16ull;
           w2c_j2 += w2c_j3;
           w2c_j3 = 376ull;
-          w2c_f121(instance, w2c_j2, w2c_j3);
+          w2c_f123(instance, w2c_j2, w2c_j3);
           w2c_j2 = w2c_l3;
           w2c_i2 = (u32)(w2c_j2);
           w2c_j2 = i64_load(&instance->w2c_memory, (u64)(w2c_i2) + 16u);
@@ -17735,7 +17739,7 @@ static void w2c_f0(Z_dine_ffi_instance_t* instance, u64 w2c_p0, u64 w2c_p1, u64 
   w2c_l15 = w2c_j0;
   w2c_j0 = w2c_l7;
   w2c_j1 = 136ull;
-  w2c_f121(instance, w2c_j0, w2c_j1);
+  w2c_f123(instance, w2c_j0, w2c_j1);
   w2c_j0 = w2c_l7;
   w2c_i0 = (u32)(w2c_j0);
   w2c_j0 = i64_load(&instance->w2c_memory, (u64)(w2c_i0));
@@ -19699,7 +19703,7 @@ static void w2c_f1(Z_dine_ffi_instance_t* instance, u64 w2c_p0, u64 w2c_p1) {
     w2c_j2 = 56ull;
     w2c_j1 += w2c_j2;
     w2c_j2 = 968ull;
-    w2c_f121(instance, w2c_j1, w2c_j2);
+    w2c_f123(instance, w2c_j1, w2c_j2);
     w2c_j1 = w2c_l2;
     w2c_i1 = (u32)(w2c_j1);
     w2c_j1 = i64_load(&instance->w2c_memory, (u64)(w2c_i1) + 56u);
@@ -19911,7 +19915,7 @@ static void w2c_f1(Z_dine_ffi_instance_t* instance, u64 w2c_p0, u64 w2c_p1) {
         w2c_j1 = 40ull;
         w2c_j0 += w2c_j1;
         w2c_j1 = 1096ull;
-        w2c_f121(instance, w2c_j0, w2c_j1);
+        w2c_f123(instance, w2c_j0, w2c_j1);
         w2c_j0 = w2c_l2;
         w2c_i0 = (u32)(w2c_j0);
         w2c_j0 = i64_load(&instance->w2c_memory, (u64)(w2c_i0) + 40u);
@@ -20147,7 +20151,7 @@ static void w2c_f1(Z_dine_ffi_instance_t* instance, u64 w2c_p0, u64 w2c_p1) {
             w2c_j1 = 8ull;
             w2c_j0 += w2c_j1;
             w2c_j1 = 968ull;
-            w2c_f121(instance, w2c_j0, w2c_j1);
+            w2c_f123(instance, w2c_j0, w2c_j1);
             w2c_j0 = w2c_l2;
             w2c_i0 = (u32)(w2c_j0);
             w2c_j0 = i64_load(&instance->w2c_memory, (u64)(w2c_i0) + 8u);
@@ -20165,7 +20169,7 @@ static void w2c_f1(Z_dine_ffi_instance_t* instance, u64 w2c_p0, u64 w2c_p1) {
           w2c_j1 = 24ull;
           w2c_j0 += w2c_j1;
           w2c_j1 = 1096ull;
-          w2c_f121(instance, w2c_j0, w2c_j1);
+          w2c_f123(instance, w2c_j0, w2c_j1);
           w2c_j0 = w2c_l2;
           w2c_i0 = (u32)(w2c_j0);
           w2c_j0 = i64_load(&instance->w2c_memory, (u64)(w2c_i0) + 24u);
@@ -29072,7 +29076,7 @@ static void w2c_f8(Z_dine_ffi_instance_t* instance, u64 w2c_p0, u64 w2c_p1, u64 
       w2c_j1 = 24ull;
       w2c_j0 += w2c_j1;
       w2c_j1 = w2c_l10;
-      w2c_f121(instance, w2c_j0, w2c_j1);
+      w2c_f123(instance, w2c_j0, w2c_j1);
       w2c_j0 = w2c_l8;
       w2c_i0 = (u32)(w2c_j0);
       w2c_j0 = i64_load(&instance->w2c_memory, (u64)(w2c_i0) + 24u);
@@ -29365,7 +29369,7 @@ static u32 w2c_f9(Z_dine_ffi_instance_t* instance, u64 w2c_p0) {
     w2c_j3 = w2c_l3;
     w2c_j4 = 24ull;
     w2c_j3 *= w2c_j4;
-    w2c_f123(instance, w2c_j0, w2c_j1, w2c_j2, w2c_j3);
+    w2c_f127(instance, w2c_j0, w2c_j1, w2c_j2, w2c_j3);
     w2c_j0 = w2c_l1;
     w2c_i0 = (u32)(w2c_j0);
     w2c_j0 = i64_load(&instance->w2c_memory, (u64)(w2c_i0) + 16u);
@@ -29383,7 +29387,7 @@ static u32 w2c_f9(Z_dine_ffi_instance_t* instance, u64 w2c_p0) {
   w2c_j1 = w2c_l4;
   w2c_j2 = 24ull;
   w2c_j1 *= w2c_j2;
-  w2c_f121(instance, w2c_j0, w2c_j1);
+  w2c_f123(instance, w2c_j0, w2c_j1);
   w2c_j0 = w2c_l1;
   w2c_i0 = (u32)(w2c_j0);
   w2c_j0 = i64_load(&instance->w2c_memory, (u64)(w2c_i0));
@@ -39072,7 +39076,7 @@ static u32 w2c_f25(Z_dine_ffi_instance_t* instance, u64 w2c_p0) {
     w2c_j3 = w2c_l3;
     w2c_j4 = 40ull;
     w2c_j3 *= w2c_j4;
-    w2c_f123(instance, w2c_j0, w2c_j1, w2c_j2, w2c_j3);
+    w2c_f127(instance, w2c_j0, w2c_j1, w2c_j2, w2c_j3);
     w2c_j0 = w2c_l1;
     w2c_i0 = (u32)(w2c_j0);
     w2c_j0 = i64_load(&instance->w2c_memory, (u64)(w2c_i0) + 16u);
@@ -39090,7 +39094,7 @@ static u32 w2c_f25(Z_dine_ffi_instance_t* instance, u64 w2c_p0) {
   w2c_j1 = w2c_l4;
   w2c_j2 = 40ull;
   w2c_j1 *= w2c_j2;
-  w2c_f121(instance, w2c_j0, w2c_j1);
+  w2c_f123(instance, w2c_j0, w2c_j1);
   w2c_j0 = w2c_l1;
   w2c_i0 = (u32)(w2c_j0);
   w2c_j0 = i64_load(&instance->w2c_memory, (u64)(w2c_i0));
@@ -40277,7 +40281,7 @@ static void w2c_f28(Z_dine_ffi_instance_t* instance, u64 w2c_p0, u64 w2c_p1, u64
       }
       w2c_j0 = w2c_l3;
       w2c_j1 = w2c_l9;
-      w2c_f121(instance, w2c_j0, w2c_j1);
+      w2c_f123(instance, w2c_j0, w2c_j1);
       w2c_j0 = 0ull;
       w2c_l7 = w2c_j0;
       w2c_i0 = 0u;
@@ -43030,7 +43034,7 @@ static u32 w2c_f30(Z_dine_ffi_instance_t* instance, u64 w2c_p0, u64 w2c_p1) {
     w2c_j1 = i64_load(&instance->w2c_memory, (u64)(w2c_i1));
     w2c_j2 = w2c_l3;
     w2c_j3 = w2c_p1;
-    w2c_f123(instance, w2c_j0, w2c_j1, w2c_j2, w2c_j3);
+    w2c_f127(instance, w2c_j0, w2c_j1, w2c_j2, w2c_j3);
     w2c_j0 = w2c_l2;
     w2c_i0 = (u32)(w2c_j0);
     w2c_j0 = i64_load(&instance->w2c_memory, (u64)(w2c_i0) + 16u);
@@ -43046,7 +43050,7 @@ static u32 w2c_f30(Z_dine_ffi_instance_t* instance, u64 w2c_p0, u64 w2c_p1) {
   }
   w2c_j0 = w2c_l2;
   w2c_j1 = w2c_l4;
-  w2c_f121(instance, w2c_j0, w2c_j1);
+  w2c_f123(instance, w2c_j0, w2c_j1);
   w2c_j0 = w2c_l2;
   w2c_i0 = (u32)(w2c_j0);
   w2c_j0 = i64_load(&instance->w2c_memory, (u64)(w2c_i0));
@@ -46183,7 +46187,7 @@ static void w2c_f34(Z_dine_ffi_instance_t* instance, u64 w2c_p0, u64 w2c_p1, u64
     w2c_j2 = 0ull;
     w2c_i3 = w2c_l7;
     w2c_j3 = (u64)(w2c_i3);
-    w2c_f126(instance, w2c_j0, w2c_j1, w2c_j2, w2c_j3);
+    w2c_f130(instance, w2c_j0, w2c_j1, w2c_j2, w2c_j3);
     w2c_i0 = 0u;
     w2c_j1 = w2c_l3;
     w2c_i1 = (u32)(w2c_j1);
@@ -48627,7 +48631,7 @@ static void w2c_f36(Z_dine_ffi_instance_t* instance, u64 w2c_p0, u64 w2c_p1, u64
       w2c_j1 = 24ull;
       w2c_j0 += w2c_j1;
       w2c_j1 = w2c_l9;
-      w2c_f121(instance, w2c_j0, w2c_j1);
+      w2c_f123(instance, w2c_j0, w2c_j1);
       w2c_j0 = w2c_l6;
       w2c_i0 = (u32)(w2c_j0);
       w2c_j0 = i64_load(&instance->w2c_memory, (u64)(w2c_i0) + 24u);
@@ -50334,7 +50338,7 @@ static void w2c_f37(Z_dine_ffi_instance_t* instance, u64 w2c_p0, u64 w2c_p1, u64
     w2c_j4 = I64_CLZ(w2c_j4);
     w2c_l9 = w2c_j4;
     w2c_j3 <<= (w2c_j4 & 63);
-    w2c_f126(instance, w2c_j0, w2c_j1, w2c_j2, w2c_j3);
+    w2c_f130(instance, w2c_j0, w2c_j1, w2c_j2, w2c_j3);
     w2c_j0 = w2c_l16;
     w2c_j1 = 19ull;
     w2c_i0 = w2c_j0 > w2c_j1;
@@ -50633,7 +50637,7 @@ static void w2c_f37(Z_dine_ffi_instance_t* instance, u64 w2c_p0, u64 w2c_p1, u64
               w2c_j1 = i64_load(&instance->w2c_memory, (u64)(w2c_i1));
               w2c_j2 = 0ull;
               w2c_j3 = w2c_l12;
-              w2c_f126(instance, w2c_j0, w2c_j1, w2c_j2, w2c_j3);
+              w2c_f130(instance, w2c_j0, w2c_j1, w2c_j2, w2c_j3);
               w2c_j0 = w2c_p1;
               w2c_i0 = (u32)(w2c_j0);
               w2c_j1 = w2c_l4;
@@ -50655,7 +50659,7 @@ static void w2c_f37(Z_dine_ffi_instance_t* instance, u64 w2c_p0, u64 w2c_p1, u64
               w2c_j1 = i64_load(&instance->w2c_memory, (u64)(w2c_i1));
               w2c_j2 = 0ull;
               w2c_j3 = w2c_l12;
-              w2c_f126(instance, w2c_j0, w2c_j1, w2c_j2, w2c_j3);
+              w2c_f130(instance, w2c_j0, w2c_j1, w2c_j2, w2c_j3);
               w2c_j0 = w2c_l17;
               w2c_i0 = (u32)(w2c_j0);
               w2c_j1 = w2c_l4;
@@ -50712,7 +50716,7 @@ static void w2c_f37(Z_dine_ffi_instance_t* instance, u64 w2c_p0, u64 w2c_p1, u64
           w2c_j1 = i64_load(&instance->w2c_memory, (u64)(w2c_i1));
           w2c_j2 = 0ull;
           w2c_j3 = w2c_l12;
-          w2c_f126(instance, w2c_j0, w2c_j1, w2c_j2, w2c_j3);
+          w2c_f130(instance, w2c_j0, w2c_j1, w2c_j2, w2c_j3);
           w2c_j0 = w2c_p1;
           w2c_i0 = (u32)(w2c_j0);
           w2c_j1 = w2c_l4;
@@ -51093,7 +51097,7 @@ static void w2c_f37(Z_dine_ffi_instance_t* instance, u64 w2c_p0, u64 w2c_p1, u64
             w2c_j1 = i64_load(&instance->w2c_memory, (u64)(w2c_i1));
             w2c_j2 = 0ull;
             w2c_j3 = w2c_l5;
-            w2c_f126(instance, w2c_j0, w2c_j1, w2c_j2, w2c_j3);
+            w2c_f130(instance, w2c_j0, w2c_j1, w2c_j2, w2c_j3);
             w2c_j0 = w2c_p1;
             w2c_i0 = (u32)(w2c_j0);
             w2c_j1 = w2c_l4;
@@ -51115,7 +51119,7 @@ static void w2c_f37(Z_dine_ffi_instance_t* instance, u64 w2c_p0, u64 w2c_p1, u64
             w2c_j1 = i64_load(&instance->w2c_memory, (u64)(w2c_i1));
             w2c_j2 = 0ull;
             w2c_j3 = w2c_l5;
-            w2c_f126(instance, w2c_j0, w2c_j1, w2c_j2, w2c_j3);
+            w2c_f130(instance, w2c_j0, w2c_j1, w2c_j2, w2c_j3);
             w2c_j0 = w2c_l8;
             w2c_i0 = (u32)(w2c_j0);
             w2c_j1 = w2c_l4;
@@ -51170,7 +51174,7 @@ static void w2c_f37(Z_dine_ffi_instance_t* instance, u64 w2c_p0, u64 w2c_p1, u64
         w2c_j1 = i64_load(&instance->w2c_memory, (u64)(w2c_i1));
         w2c_j2 = 0ull;
         w2c_j3 = w2c_l5;
-        w2c_f126(instance, w2c_j0, w2c_j1, w2c_j2, w2c_j3);
+        w2c_f130(instance, w2c_j0, w2c_j1, w2c_j2, w2c_j3);
         w2c_j0 = w2c_p1;
         w2c_i0 = (u32)(w2c_j0);
         w2c_j1 = w2c_l4;
@@ -51296,7 +51300,7 @@ static void w2c_f37(Z_dine_ffi_instance_t* instance, u64 w2c_p0, u64 w2c_p1, u64
     w2c_j4 = I64_CLZ(w2c_j4);
     w2c_l5 = w2c_j4;
     w2c_j3 <<= (w2c_j4 & 63);
-    w2c_f126(instance, w2c_j0, w2c_j1, w2c_j2, w2c_j3);
+    w2c_f130(instance, w2c_j0, w2c_j1, w2c_j2, w2c_j3);
     w2c_j0 = 512ull;
     w2c_j1 = w2c_l11;
     w2c_i1 = (u32)(w2c_j1);
@@ -51411,7 +51415,7 @@ static void w2c_f37(Z_dine_ffi_instance_t* instance, u64 w2c_p0, u64 w2c_p1, u64
   w2c_j4 = I64_CLZ(w2c_j4);
   w2c_l5 = w2c_j4;
   w2c_j3 <<= (w2c_j4 & 63);
-  w2c_f126(instance, w2c_j0, w2c_j1, w2c_j2, w2c_j3);
+  w2c_f130(instance, w2c_j0, w2c_j1, w2c_j2, w2c_j3);
   w2c_j0 = w2c_l11;
   w2c_i0 = (u32)(w2c_j0);
   w2c_j0 = i64_load(&instance->w2c_memory, (u64)(w2c_i0) + 8u);
@@ -51543,7 +51547,7 @@ static void w2c_f37(Z_dine_ffi_instance_t* instance, u64 w2c_p0, u64 w2c_p1, u64
     w2c_j1 = w2c_p2;
     w2c_j2 = w2c_l5;
     w2c_j3 = 10ull;
-    w2c_f126(instance, w2c_j0, w2c_j1, w2c_j2, w2c_j3);
+    w2c_f130(instance, w2c_j0, w2c_j1, w2c_j2, w2c_j3);
     w2c_j0 = w2c_l11;
     w2c_i0 = (u32)(w2c_j0);
     w2c_j0 = i64_load(&instance->w2c_memory, (u64)(w2c_i0) + 40u);
@@ -51857,7 +51861,7 @@ static void w2c_f38(Z_dine_ffi_instance_t* instance, u64 w2c_p0, u64 w2c_p1, u64
   w2c_l10 = w2c_j4;
   w2c_j3 <<= (w2c_j4 & 63);
   w2c_p1 = w2c_j3;
-  w2c_f126(instance, w2c_j0, w2c_j1, w2c_j2, w2c_j3);
+  w2c_f130(instance, w2c_j0, w2c_j1, w2c_j2, w2c_j3);
   w2c_j0 = w2c_l4;
   w2c_j1 = 48ull;
   w2c_j0 += w2c_j1;
@@ -51866,7 +51870,7 @@ static void w2c_f38(Z_dine_ffi_instance_t* instance, u64 w2c_p0, u64 w2c_p1, u64
   w2c_j1 = i64_load(&instance->w2c_memory, (u64)(w2c_i1) + 1048752u);
   w2c_j2 = 0ull;
   w2c_j3 = w2c_p1;
-  w2c_f126(instance, w2c_j0, w2c_j1, w2c_j2, w2c_j3);
+  w2c_f130(instance, w2c_j0, w2c_j1, w2c_j2, w2c_j3);
   w2c_j0 = 0ull;
   w2c_j1 = 0ull;
   w2c_j2 = w2c_l10;
@@ -51997,14 +52001,14 @@ static void w2c_f38(Z_dine_ffi_instance_t* instance, u64 w2c_p0, u64 w2c_p1, u64
   w2c_j1 = 18446744073709551615ull;
   w2c_j2 = 18446744073709551615ull;
   w2c_i3 = w2c_l13;
-  w2c_f127(instance, w2c_j0, w2c_j1, w2c_j2, w2c_i3);
+  w2c_f131(instance, w2c_j0, w2c_j1, w2c_j2, w2c_i3);
   w2c_j0 = w2c_l4;
   w2c_j1 = 1ull;
   w2c_j2 = 0ull;
   w2c_i3 = w2c_l13;
   w2c_i4 = 1u;
   w2c_i3 -= w2c_i4;
-  w2c_f127(instance, w2c_j0, w2c_j1, w2c_j2, w2c_i3);
+  w2c_f131(instance, w2c_j0, w2c_j1, w2c_j2, w2c_i3);
   w2c_j0 = w2c_l4;
   w2c_i0 = (u32)(w2c_j0);
   w2c_j0 = i64_load(&instance->w2c_memory, (u64)(w2c_i0) + 32u);
@@ -52333,7 +52337,7 @@ static u64 w2c_f39(Z_dine_ffi_instance_t* instance, u64 w2c_p0, u32 w2c_p1, u64 
       w2c_j1 = i64_load(&instance->w2c_memory, (u64)(w2c_i1));
       w2c_j2 = 0ull;
       w2c_i3 = w2c_l15;
-      w2c_f127(instance, w2c_j0, w2c_j1, w2c_j2, w2c_i3);
+      w2c_f131(instance, w2c_j0, w2c_j1, w2c_j2, w2c_i3);
       w2c_j0 = w2c_p0;
       w2c_i0 = (u32)(w2c_j0);
       w2c_j1 = w2c_l6;
@@ -52355,7 +52359,7 @@ static u64 w2c_f39(Z_dine_ffi_instance_t* instance, u64 w2c_p0, u32 w2c_p1, u64 
       w2c_j1 = i64_load(&instance->w2c_memory, (u64)(w2c_i1));
       w2c_j2 = 0ull;
       w2c_i3 = w2c_l15;
-      w2c_f127(instance, w2c_j0, w2c_j1, w2c_j2, w2c_i3);
+      w2c_f131(instance, w2c_j0, w2c_j1, w2c_j2, w2c_i3);
       w2c_j0 = w2c_l11;
       w2c_i0 = (u32)(w2c_j0);
       w2c_j1 = w2c_l6;
@@ -52413,7 +52417,7 @@ static u64 w2c_f39(Z_dine_ffi_instance_t* instance, u64 w2c_p0, u32 w2c_p1, u64 
   w2c_j2 = 0ull;
   w2c_j3 = w2c_l10;
   w2c_i3 = (u32)(w2c_j3);
-  w2c_f127(instance, w2c_j0, w2c_j1, w2c_j2, w2c_i3);
+  w2c_f131(instance, w2c_j0, w2c_j1, w2c_j2, w2c_i3);
   w2c_j0 = w2c_p0;
   w2c_i0 = (u32)(w2c_j0);
   w2c_j1 = w2c_l6;
@@ -52656,7 +52660,7 @@ static u64 w2c_f39(Z_dine_ffi_instance_t* instance, u64 w2c_p0, u32 w2c_p1, u64 
       w2c_j1 = i64_load(&instance->w2c_memory, (u64)(w2c_i1));
       w2c_j2 = 0ull;
       w2c_i3 = w2c_l15;
-      w2c_f127(instance, w2c_j0, w2c_j1, w2c_j2, w2c_i3);
+      w2c_f131(instance, w2c_j0, w2c_j1, w2c_j2, w2c_i3);
       w2c_j0 = w2c_p0;
       w2c_i0 = (u32)(w2c_j0);
       w2c_j1 = w2c_l6;
@@ -52678,7 +52682,7 @@ static u64 w2c_f39(Z_dine_ffi_instance_t* instance, u64 w2c_p0, u32 w2c_p1, u64 
       w2c_j1 = i64_load(&instance->w2c_memory, (u64)(w2c_i1));
       w2c_j2 = 0ull;
       w2c_i3 = w2c_l15;
-      w2c_f127(instance, w2c_j0, w2c_j1, w2c_j2, w2c_i3);
+      w2c_f131(instance, w2c_j0, w2c_j1, w2c_j2, w2c_i3);
       w2c_j0 = w2c_l11;
       w2c_i0 = (u32)(w2c_j0);
       w2c_j1 = w2c_l6;
@@ -52734,7 +52738,7 @@ static u64 w2c_f39(Z_dine_ffi_instance_t* instance, u64 w2c_p0, u32 w2c_p1, u64 
   w2c_j2 = 0ull;
   w2c_j3 = w2c_l10;
   w2c_i3 = (u32)(w2c_j3);
-  w2c_f127(instance, w2c_j0, w2c_j1, w2c_j2, w2c_i3);
+  w2c_f131(instance, w2c_j0, w2c_j1, w2c_j2, w2c_i3);
   w2c_j0 = w2c_p0;
   w2c_i0 = (u32)(w2c_j0);
   w2c_j1 = w2c_l6;
@@ -52944,7 +52948,7 @@ static void w2c_f40(Z_dine_ffi_instance_t* instance, u64 w2c_p0, u64 w2c_p1) {
           w2c_j1 = i64_load(&instance->w2c_memory, (u64)(w2c_i1));
           w2c_j2 = 0ull;
           w2c_j3 = 10000000000000000000ull;
-          w2c_f126(instance, w2c_j0, w2c_j1, w2c_j2, w2c_j3);
+          w2c_f130(instance, w2c_j0, w2c_j1, w2c_j2, w2c_j3);
           w2c_j0 = w2c_l4;
           w2c_i0 = (u32)(w2c_j0);
           w2c_j1 = w2c_l3;
@@ -52966,7 +52970,7 @@ static void w2c_f40(Z_dine_ffi_instance_t* instance, u64 w2c_p0, u64 w2c_p1) {
           w2c_j1 = i64_load(&instance->w2c_memory, (u64)(w2c_i1));
           w2c_j2 = 0ull;
           w2c_j3 = 10000000000000000000ull;
-          w2c_f126(instance, w2c_j0, w2c_j1, w2c_j2, w2c_j3);
+          w2c_f130(instance, w2c_j0, w2c_j1, w2c_j2, w2c_j3);
           w2c_j0 = w2c_l10;
           w2c_i0 = (u32)(w2c_j0);
           w2c_j1 = w2c_l3;
@@ -53021,7 +53025,7 @@ static void w2c_f40(Z_dine_ffi_instance_t* instance, u64 w2c_p0, u64 w2c_p1) {
       w2c_j1 = i64_load(&instance->w2c_memory, (u64)(w2c_i1));
       w2c_j2 = 0ull;
       w2c_j3 = 10000000000000000000ull;
-      w2c_f126(instance, w2c_j0, w2c_j1, w2c_j2, w2c_j3);
+      w2c_f130(instance, w2c_j0, w2c_j1, w2c_j2, w2c_j3);
       w2c_j0 = w2c_l4;
       w2c_i0 = (u32)(w2c_j0);
       w2c_j1 = w2c_l3;
@@ -53109,7 +53113,7 @@ static void w2c_f40(Z_dine_ffi_instance_t* instance, u64 w2c_p0, u64 w2c_p1) {
       w2c_j1 = i64_load(&instance->w2c_memory, (u64)(w2c_i1));
       w2c_j2 = 0ull;
       w2c_j3 = w2c_l8;
-      w2c_f126(instance, w2c_j0, w2c_j1, w2c_j2, w2c_j3);
+      w2c_f130(instance, w2c_j0, w2c_j1, w2c_j2, w2c_j3);
       w2c_j0 = w2c_l4;
       w2c_i0 = (u32)(w2c_j0);
       w2c_j1 = w2c_l3;
@@ -53131,7 +53135,7 @@ static void w2c_f40(Z_dine_ffi_instance_t* instance, u64 w2c_p0, u64 w2c_p1) {
       w2c_j1 = i64_load(&instance->w2c_memory, (u64)(w2c_i1));
       w2c_j2 = 0ull;
       w2c_j3 = w2c_l8;
-      w2c_f126(instance, w2c_j0, w2c_j1, w2c_j2, w2c_j3);
+      w2c_f130(instance, w2c_j0, w2c_j1, w2c_j2, w2c_j3);
       w2c_j0 = w2c_l11;
       w2c_i0 = (u32)(w2c_j0);
       w2c_j1 = w2c_l3;
@@ -53184,7 +53188,7 @@ static void w2c_f40(Z_dine_ffi_instance_t* instance, u64 w2c_p0, u64 w2c_p1) {
   w2c_j1 = i64_load(&instance->w2c_memory, (u64)(w2c_i1));
   w2c_j2 = 0ull;
   w2c_j3 = w2c_l8;
-  w2c_f126(instance, w2c_j0, w2c_j1, w2c_j2, w2c_j3);
+  w2c_f130(instance, w2c_j0, w2c_j1, w2c_j2, w2c_j3);
   w2c_j0 = w2c_l4;
   w2c_i0 = (u32)(w2c_j0);
   w2c_j1 = w2c_l3;
@@ -53546,7 +53550,7 @@ static u32 w2c_f42(Z_dine_ffi_instance_t* instance, u64 w2c_p0, u64 w2c_p1, u64 
   w2c_j1 = 48ull;
   w2c_j0 += w2c_j1;
   w2c_j1 = 1208ull;
-  w2c_f121(instance, w2c_j0, w2c_j1);
+  w2c_f123(instance, w2c_j0, w2c_j1);
   w2c_j0 = w2c_l3;
   w2c_i0 = (u32)(w2c_j0);
   w2c_j0 = i64_load(&instance->w2c_memory, (u64)(w2c_i0) + 48u);
@@ -53790,7 +53794,7 @@ static u32 w2c_f42(Z_dine_ffi_instance_t* instance, u64 w2c_p0, u64 w2c_p1, u64 
     w2c_j1 = 32ull;
     w2c_j0 += w2c_j1;
     w2c_j1 = 1336ull;
-    w2c_f121(instance, w2c_j0, w2c_j1);
+    w2c_f123(instance, w2c_j0, w2c_j1);
     w2c_j0 = w2c_l3;
     w2c_i0 = (u32)(w2c_j0);
     w2c_j0 = i64_load(&instance->w2c_memory, (u64)(w2c_i0) + 32u);
@@ -54064,7 +54068,7 @@ static u32 w2c_f42(Z_dine_ffi_instance_t* instance, u64 w2c_p0, u64 w2c_p1, u64 
       if (w2c_i0) {
         w2c_j0 = w2c_l3;
         w2c_j1 = 1208ull;
-        w2c_f121(instance, w2c_j0, w2c_j1);
+        w2c_f123(instance, w2c_j0, w2c_j1);
         w2c_j0 = w2c_l3;
         w2c_i0 = (u32)(w2c_j0);
         w2c_j0 = i64_load(&instance->w2c_memory, (u64)(w2c_i0));
@@ -54082,7 +54086,7 @@ static u32 w2c_f42(Z_dine_ffi_instance_t* instance, u64 w2c_p0, u64 w2c_p1, u64 
       w2c_j1 = 16ull;
       w2c_j0 += w2c_j1;
       w2c_j1 = 1336ull;
-      w2c_f121(instance, w2c_j0, w2c_j1);
+      w2c_f123(instance, w2c_j0, w2c_j1);
       w2c_j0 = w2c_l3;
       w2c_i0 = (u32)(w2c_j0);
       w2c_j0 = i64_load(&instance->w2c_memory, (u64)(w2c_i0) + 16u);
@@ -60483,7 +60487,7 @@ static u32 w2c_f51(Z_dine_ffi_instance_t* instance, u64 w2c_p0) {
     w2c_j3 = w2c_l3;
     w2c_j4 = 4ull;
     w2c_j3 <<= (w2c_j4 & 63);
-    w2c_f123(instance, w2c_j0, w2c_j1, w2c_j2, w2c_j3);
+    w2c_f127(instance, w2c_j0, w2c_j1, w2c_j2, w2c_j3);
     w2c_j0 = w2c_l1;
     w2c_i0 = (u32)(w2c_j0);
     w2c_j0 = i64_load(&instance->w2c_memory, (u64)(w2c_i0) + 16u);
@@ -60501,7 +60505,7 @@ static u32 w2c_f51(Z_dine_ffi_instance_t* instance, u64 w2c_p0) {
   w2c_j1 = w2c_l4;
   w2c_j2 = 4ull;
   w2c_j1 <<= (w2c_j2 & 63);
-  w2c_f121(instance, w2c_j0, w2c_j1);
+  w2c_f123(instance, w2c_j0, w2c_j1);
   w2c_j0 = w2c_l1;
   w2c_i0 = (u32)(w2c_j0);
   w2c_j0 = i64_load(&instance->w2c_memory, (u64)(w2c_i0));
@@ -61775,7 +61779,7 @@ static u32 w2c_f54(Z_dine_ffi_instance_t* instance, u64 w2c_p0) {
     w2c_j3 = w2c_l3;
     w2c_j4 = 56ull;
     w2c_j3 *= w2c_j4;
-    w2c_f123(instance, w2c_j0, w2c_j1, w2c_j2, w2c_j3);
+    w2c_f127(instance, w2c_j0, w2c_j1, w2c_j2, w2c_j3);
     w2c_j0 = w2c_l1;
     w2c_i0 = (u32)(w2c_j0);
     w2c_j0 = i64_load(&instance->w2c_memory, (u64)(w2c_i0) + 16u);
@@ -61793,7 +61797,7 @@ static u32 w2c_f54(Z_dine_ffi_instance_t* instance, u64 w2c_p0) {
   w2c_j1 = w2c_l4;
   w2c_j2 = 56ull;
   w2c_j1 *= w2c_j2;
-  w2c_f121(instance, w2c_j0, w2c_j1);
+  w2c_f123(instance, w2c_j0, w2c_j1);
   w2c_j0 = w2c_l1;
   w2c_i0 = (u32)(w2c_j0);
   w2c_j0 = i64_load(&instance->w2c_memory, (u64)(w2c_i0));
@@ -62633,7 +62637,7 @@ static u32 w2c_f57(Z_dine_ffi_instance_t* instance, u64 w2c_p0) {
     w2c_j3 = w2c_l3;
     w2c_j4 = 3ull;
     w2c_j3 <<= (w2c_j4 & 63);
-    w2c_f123(instance, w2c_j0, w2c_j1, w2c_j2, w2c_j3);
+    w2c_f127(instance, w2c_j0, w2c_j1, w2c_j2, w2c_j3);
     w2c_j0 = w2c_l1;
     w2c_i0 = (u32)(w2c_j0);
     w2c_j0 = i64_load(&instance->w2c_memory, (u64)(w2c_i0) + 16u);
@@ -62651,7 +62655,7 @@ static u32 w2c_f57(Z_dine_ffi_instance_t* instance, u64 w2c_p0) {
   w2c_j1 = w2c_l4;
   w2c_j2 = 3ull;
   w2c_j1 <<= (w2c_j2 & 63);
-  w2c_f121(instance, w2c_j0, w2c_j1);
+  w2c_f123(instance, w2c_j0, w2c_j1);
   w2c_j0 = w2c_l1;
   w2c_i0 = (u32)(w2c_j0);
   w2c_j0 = i64_load(&instance->w2c_memory, (u64)(w2c_i0));
@@ -66794,7 +66798,7 @@ static u32 w2c_f63(Z_dine_ffi_instance_t* instance, u64 w2c_p0) {
     w2c_j3 = w2c_l3;
     w2c_j4 = 2ull;
     w2c_j3 <<= (w2c_j4 & 63);
-    w2c_f123(instance, w2c_j0, w2c_j1, w2c_j2, w2c_j3);
+    w2c_f127(instance, w2c_j0, w2c_j1, w2c_j2, w2c_j3);
     w2c_j0 = w2c_l1;
     w2c_i0 = (u32)(w2c_j0);
     w2c_j0 = i64_load(&instance->w2c_memory, (u64)(w2c_i0) + 16u);
@@ -66812,7 +66816,7 @@ static u32 w2c_f63(Z_dine_ffi_instance_t* instance, u64 w2c_p0) {
   w2c_j1 = w2c_l4;
   w2c_j2 = 2ull;
   w2c_j1 <<= (w2c_j2 & 63);
-  w2c_f121(instance, w2c_j0, w2c_j1);
+  w2c_f123(instance, w2c_j0, w2c_j1);
   w2c_j0 = w2c_l1;
   w2c_i0 = (u32)(w2c_j0);
   w2c_j0 = i64_load(&instance->w2c_memory, (u64)(w2c_i0));
@@ -66883,7 +66887,7 @@ static u64 w2c_f64(Z_dine_ffi_instance_t* instance, u64 w2c_p0, u64 w2c_p1) {
   w2c_j1 = 8ull;
   w2c_j0 += w2c_j1;
   w2c_j1 = 272ull;
-  w2c_f121(instance, w2c_j0, w2c_j1);
+  w2c_f123(instance, w2c_j0, w2c_j1);
   w2c_j0 = w2c_l2;
   w2c_i0 = (u32)(w2c_j0);
   w2c_j0 = i64_load(&instance->w2c_memory, (u64)(w2c_i0) + 8u);
@@ -70723,7 +70727,395 @@ static void w2c_f72(Z_dine_ffi_instance_t* instance, u64 w2c_p0, u64 w2c_p1) {
   FUNC_EPILOGUE;
 }
 
-static void w2c_f73(Z_dine_ffi_instance_t* instance, u64 w2c_p0, u64 w2c_p1) {
+static u64 w2c_f73(Z_dine_ffi_instance_t* instance, u64 w2c_p0, u32 w2c_p1, u64 w2c_p2, u64 w2c_p3) {
+  u32 w2c_l10 = 0, w2c_l11 = 0;
+  u64 w2c_l4 = 0, w2c_l5 = 0, w2c_l6 = 0, w2c_l7 = 0, w2c_l8 = 0, w2c_l9 = 0;
+  FUNC_PROLOGUE;
+  u32 w2c_i0, w2c_i1, w2c_i2, w2c_i3, w2c_i4, w2c_i5;
+  u64 w2c_j0, w2c_j1, w2c_j2, w2c_j3, w2c_j4, w2c_j5, w2c_j6;
+  w2c_j0 = w2c_p0;
+  w2c_j1 = 200ull;
+  w2c_j0 += w2c_j1;
+  w2c_i0 = (u32)(w2c_j0);
+  w2c_i0 = i32_load8_u(&instance->w2c_memory, (u64)(w2c_i0));
+  w2c_i1 = 1u;
+  w2c_i0 = w2c_i0 == w2c_i1;
+  if (w2c_i0) {
+    w2c_j0 = 18446744073709551609ull;
+    w2c_p3 = w2c_j0;
+    goto w2c_B0;
+  }
+  w2c_j0 = w2c_p3;
+  w2c_j1 = 21ull;
+  w2c_i0 = w2c_j0 < w2c_j1;
+  if (w2c_i0) {
+    w2c_j0 = 18446744073709551610ull;
+    goto w2c_Bfunc;
+  }
+  w2c_j0 = 18446744073709551612ull;
+  w2c_p3 = w2c_j0;
+  w2c_j0 = w2c_p0;
+  w2c_j1 = 8ull;
+  w2c_j0 += w2c_j1;
+  w2c_i0 = (u32)(w2c_j0);
+  w2c_i0 = i32_load(&instance->w2c_memory, (u64)(w2c_i0));
+  w2c_l11 = w2c_i0;
+  w2c_j1 = w2c_p0;
+  w2c_i1 = (u32)(w2c_j1);
+  w2c_j1 = i64_load(&instance->w2c_memory, (u64)(w2c_i1));
+  w2c_l5 = w2c_j1;
+  w2c_j2 = 24ull;
+  w2c_j1 += w2c_j2;
+  w2c_i1 = (u32)(w2c_j1);
+  w2c_i1 = i32_load(&instance->w2c_memory, (u64)(w2c_i1));
+  w2c_i0 = w2c_i0 >= w2c_i1;
+  if (w2c_i0) {goto w2c_B0;}
+  w2c_j0 = w2c_l5;
+  w2c_j1 = 88ull;
+  w2c_j0 += w2c_j1;
+  w2c_i0 = (u32)(w2c_j0);
+  w2c_j0 = i64_load(&instance->w2c_memory, (u64)(w2c_i0));
+  w2c_i1 = w2c_l11;
+  w2c_j1 = (u64)(w2c_i1);
+  w2c_j2 = 24ull;
+  w2c_j1 *= w2c_j2;
+  w2c_j0 += w2c_j1;
+  w2c_l4 = w2c_j0;
+  w2c_j1 = 8ull;
+  w2c_j0 += w2c_j1;
+  w2c_i0 = (u32)(w2c_j0);
+  w2c_j0 = i64_load(&instance->w2c_memory, (u64)(w2c_i0));
+  w2c_i1 = w2c_p1;
+  w2c_j1 = (u64)(w2c_i1);
+  w2c_l5 = w2c_j1;
+  w2c_i0 = w2c_j0 <= w2c_j1;
+  if (w2c_i0) {goto w2c_B0;}
+  w2c_j0 = w2c_p0;
+  w2c_j1 = 248ull;
+  w2c_j0 += w2c_j1;
+  w2c_i0 = (u32)(w2c_j0);
+  w2c_j0 = i64_load(&instance->w2c_memory, (u64)(w2c_i0));
+  w2c_j1 = w2c_l5;
+  w2c_i0 = w2c_j0 <= w2c_j1;
+  if (w2c_i0) {goto w2c_B0;}
+  w2c_j0 = 18446744073709551613ull;
+  w2c_p3 = w2c_j0;
+  w2c_i0 = w2c_p1;
+  w2c_j1 = w2c_p0;
+  w2c_j2 = 18446744073709551552ull;
+  w2c_j1 -= w2c_j2;
+  w2c_i1 = (u32)(w2c_j1);
+  w2c_i1 = i32_load(&instance->w2c_memory, (u64)(w2c_i1));
+  w2c_i0 = w2c_i0 >= w2c_i1;
+  if (w2c_i0) {goto w2c_B0;}
+  w2c_j0 = w2c_l4;
+  w2c_i0 = (u32)(w2c_j0);
+  w2c_j0 = i64_load(&instance->w2c_memory, (u64)(w2c_i0));
+  w2c_j1 = w2c_l5;
+  w2c_j2 = 2ull;
+  w2c_j1 <<= (w2c_j2 & 63);
+  w2c_j0 += w2c_j1;
+  w2c_i0 = (u32)(w2c_j0);
+  w2c_i0 = i32_load(&instance->w2c_memory, (u64)(w2c_i0));
+  w2c_p1 = w2c_i0;
+  w2c_j0 = w2c_p0;
+  w2c_j1 = 41ull;
+  w2c_j0 += w2c_j1;
+  w2c_i0 = (u32)(w2c_j0);
+  w2c_i0 = i32_load8_u(&instance->w2c_memory, (u64)(w2c_i0));
+  w2c_i1 = 2u;
+  w2c_i0 = w2c_i0 == w2c_i1;
+  if (w2c_i0) {goto w2c_B0;}
+  w2c_j0 = w2c_p0;
+  w2c_j1 = 56ull;
+  w2c_j0 += w2c_j1;
+  w2c_i0 = (u32)(w2c_j0);
+  w2c_j0 = i64_load(&instance->w2c_memory, (u64)(w2c_i0));
+  w2c_j1 = w2c_l5;
+  w2c_j2 = 56ull;
+  w2c_j1 *= w2c_j2;
+  w2c_j0 += w2c_j1;
+  w2c_l4 = w2c_j0;
+  w2c_j1 = 24ull;
+  w2c_j0 += w2c_j1;
+  w2c_l6 = w2c_j0;
+  w2c_i0 = (u32)(w2c_j0);
+  w2c_i0 = i32_load8_u(&instance->w2c_memory, (u64)(w2c_i0));
+  w2c_i1 = 1u;
+  w2c_i0 = w2c_i0 != w2c_i1;
+  if (w2c_i0) {goto w2c_B0;}
+  w2c_j0 = w2c_l4;
+  w2c_j1 = 32ull;
+  w2c_j0 += w2c_j1;
+  w2c_i0 = (u32)(w2c_j0);
+  w2c_j0 = i64_load(&instance->w2c_memory, (u64)(w2c_i0));
+  w2c_j1 = 24ull;
+  w2c_j0 += w2c_j1;
+  w2c_i0 = (u32)(w2c_j0);
+  w2c_i0 = i32_load8_u(&instance->w2c_memory, (u64)(w2c_i0));
+  w2c_i1 = 1u;
+  w2c_i0 = w2c_i0 != w2c_i1;
+  if (w2c_i0) {goto w2c_B0;}
+  w2c_j0 = w2c_l4;
+  w2c_j1 = 40ull;
+  w2c_j0 += w2c_j1;
+  w2c_i0 = (u32)(w2c_j0);
+  w2c_i0 = i32_load8_u(&instance->w2c_memory, (u64)(w2c_i0));
+  w2c_i1 = 1u;
+  w2c_i0 = w2c_i0 != w2c_i1;
+  if (w2c_i0) {goto w2c_B0;}
+  w2c_j0 = w2c_l4;
+  w2c_j1 = 50ull;
+  w2c_j0 += w2c_j1;
+  w2c_i0 = (u32)(w2c_j0);
+  w2c_i0 = i32_load8_u(&instance->w2c_memory, (u64)(w2c_i0));
+  if (w2c_i0) {goto w2c_B0;}
+  w2c_j0 = w2c_p0;
+  w2c_j1 = 80ull;
+  w2c_j0 += w2c_j1;
+  w2c_p3 = w2c_j0;
+  w2c_i0 = (u32)(w2c_j0);
+  w2c_j1 = w2c_p3;
+  w2c_i1 = (u32)(w2c_j1);
+  w2c_j1 = i64_load(&instance->w2c_memory, (u64)(w2c_i1));
+  w2c_j2 = 1ull;
+  w2c_j3 = w2c_l5;
+  w2c_j2 <<= (w2c_j3 & 63);
+  w2c_j1 |= w2c_j2;
+  i64_store(&instance->w2c_memory, (u64)(w2c_i0), w2c_j1);
+  w2c_j0 = w2c_p0;
+  w2c_j1 = 88ull;
+  w2c_j0 += w2c_j1;
+  w2c_p3 = w2c_j0;
+  w2c_i0 = (u32)(w2c_j0);
+  w2c_j1 = w2c_p3;
+  w2c_i1 = (u32)(w2c_j1);
+  w2c_j1 = i64_load(&instance->w2c_memory, (u64)(w2c_i1));
+  w2c_j2 = 18446744073709551614ull;
+  w2c_j3 = w2c_l5;
+  w2c_j2 = I64_ROTL(w2c_j2, w2c_j3);
+  w2c_j1 &= w2c_j2;
+  i64_store(&instance->w2c_memory, (u64)(w2c_i0), w2c_j1);
+  w2c_i0 = w2c_l11;
+  w2c_j1 = w2c_l4;
+  w2c_j2 = 4ull;
+  w2c_j1 += w2c_j2;
+  w2c_i1 = (u32)(w2c_j1);
+  w2c_i1 = i32_load(&instance->w2c_memory, (u64)(w2c_i1));
+  w2c_l10 = w2c_i1;
+  w2c_i0 = w2c_i0 == w2c_i1;
+  if (w2c_i0) {
+    w2c_j0 = w2c_l4;
+    w2c_j1 = 8ull;
+    w2c_j0 += w2c_j1;
+    w2c_i0 = (u32)(w2c_j0);
+    w2c_i0 = i32_load(&instance->w2c_memory, (u64)(w2c_i0));
+    w2c_l10 = w2c_i0;
+  }
+  w2c_j0 = w2c_l4;
+  w2c_j1 = 24ull;
+  w2c_j0 += w2c_j1;
+  w2c_i0 = (u32)(w2c_j0);
+  w2c_i0 = i32_load8_u(&instance->w2c_memory, (u64)(w2c_i0));
+  w2c_l11 = w2c_i0;
+  w2c_j0 = w2c_l6;
+  w2c_i0 = (u32)(w2c_j0);
+  w2c_j1 = 0ull;
+  i64_store(&instance->w2c_memory, (u64)(w2c_i0), w2c_j1);
+  w2c_j0 = w2c_l4;
+  w2c_j1 = 32ull;
+  w2c_j0 += w2c_j1;
+  w2c_i0 = (u32)(w2c_j0);
+  w2c_j0 = i64_load(&instance->w2c_memory, (u64)(w2c_i0));
+  w2c_p3 = w2c_j0;
+  w2c_j0 = w2c_l6;
+  w2c_i0 = (u32)(w2c_j0);
+  w2c_j1 = 0ull;
+  i64_store(&instance->w2c_memory, (u64)(w2c_i0) + 8, w2c_j1);
+  w2c_i0 = w2c_l11;
+  w2c_i1 = 1u;
+  w2c_i0 = w2c_i0 != w2c_i1;
+  if (w2c_i0) {
+    goto w2c_B4;
+  }
+  w2c_j0 = w2c_p3;
+  w2c_j1 = 24ull;
+  w2c_j0 += w2c_j1;
+  w2c_i0 = (u32)(w2c_j0);
+  w2c_i1 = 0u;
+  i32_store8(&instance->w2c_memory, (u64)(w2c_i0), w2c_i1);
+  w2c_j0 = w2c_p3;
+  w2c_j1 = 20ull;
+  w2c_j0 += w2c_j1;
+  w2c_l6 = w2c_j0;
+  w2c_i0 = (u32)(w2c_j0);
+  w2c_i1 = w2c_l10;
+  i32_store(&instance->w2c_memory, (u64)(w2c_i0), w2c_i1);
+  w2c_j0 = w2c_p3;
+  w2c_j1 = 28ull;
+  w2c_j2 = 32ull;
+  w2c_i3 = w2c_l10;
+  w2c_j4 = w2c_p3;
+  w2c_j5 = 4ull;
+  w2c_j4 += w2c_j5;
+  w2c_l7 = w2c_j4;
+  w2c_i4 = (u32)(w2c_j4);
+  w2c_i4 = i32_load(&instance->w2c_memory, (u64)(w2c_i4));
+  w2c_i3 = w2c_i3 == w2c_i4;
+  w2c_j1 = w2c_i3 ? w2c_j1 : w2c_j2;
+  w2c_j0 += w2c_j1;
+  w2c_i0 = (u32)(w2c_j0);
+  w2c_i0 = i32_load(&instance->w2c_memory, (u64)(w2c_i0));
+  w2c_l11 = w2c_i0;
+  w2c_j0 = w2c_p3;
+  w2c_j1 = 48ull;
+  w2c_j0 += w2c_j1;
+  w2c_i0 = (u32)(w2c_j0);
+  w2c_j0 = i64_load(&instance->w2c_memory, (u64)(w2c_i0));
+  w2c_j1 = w2c_p3;
+  w2c_j2 = 56ull;
+  w2c_j1 += w2c_j2;
+  w2c_l8 = w2c_j1;
+  w2c_i1 = (u32)(w2c_j1);
+  w2c_j1 = i64_load(&instance->w2c_memory, (u64)(w2c_i1));
+  w2c_l9 = w2c_j1;
+  w2c_j2 = 12ull;
+  w2c_j1 *= w2c_j2;
+  w2c_j0 += w2c_j1;
+  w2c_l4 = w2c_j0;
+  w2c_i0 = (u32)(w2c_j0);
+  w2c_i1 = 0u;
+  i32_store(&instance->w2c_memory, (u64)(w2c_i0) + 8, w2c_i1);
+  w2c_j0 = w2c_l4;
+  w2c_i0 = (u32)(w2c_j0);
+  w2c_i1 = w2c_l10;
+  i32_store(&instance->w2c_memory, (u64)(w2c_i0), w2c_i1);
+  w2c_j0 = w2c_l4;
+  w2c_i0 = (u32)(w2c_j0);
+  w2c_i1 = w2c_l11;
+  w2c_i2 = 1u;
+  w2c_i1 += w2c_i2;
+  i32_store(&instance->w2c_memory, (u64)(w2c_i0) + 4, w2c_i1);
+  w2c_j0 = w2c_l8;
+  w2c_i0 = (u32)(w2c_j0);
+  w2c_j1 = w2c_l9;
+  w2c_j2 = 1ull;
+  w2c_j1 += w2c_j2;
+  w2c_l4 = w2c_j1;
+  i64_store(&instance->w2c_memory, (u64)(w2c_i0), w2c_j1);
+  w2c_j0 = w2c_p3;
+  w2c_j1 = 28ull;
+  w2c_j2 = 28ull;
+  w2c_j3 = 32ull;
+  w2c_j4 = w2c_l7;
+  w2c_i4 = (u32)(w2c_j4);
+  w2c_i4 = i32_load(&instance->w2c_memory, (u64)(w2c_i4));
+  w2c_l10 = w2c_i4;
+  w2c_j5 = w2c_p3;
+  w2c_j6 = 8ull;
+  w2c_j5 += w2c_j6;
+  w2c_i5 = (u32)(w2c_j5);
+  w2c_i5 = i32_load(&instance->w2c_memory, (u64)(w2c_i5));
+  w2c_i4 = w2c_i4 == w2c_i5;
+  w2c_j2 = w2c_i4 ? w2c_j2 : w2c_j3;
+  w2c_j3 = w2c_l6;
+  w2c_i3 = (u32)(w2c_j3);
+  w2c_i3 = i32_load(&instance->w2c_memory, (u64)(w2c_i3));
+  w2c_i4 = w2c_l10;
+  w2c_i3 = w2c_i3 != w2c_i4;
+  w2c_j1 = w2c_i3 ? w2c_j1 : w2c_j2;
+  w2c_j0 += w2c_j1;
+  w2c_i0 = (u32)(w2c_j0);
+  w2c_i0 = i32_load(&instance->w2c_memory, (u64)(w2c_i0));
+  w2c_l10 = w2c_i0;
+  w2c_j0 = w2c_p2;
+  w2c_i0 = (u32)(w2c_j0);
+  w2c_j1 = w2c_p3;
+  w2c_j2 = 40ull;
+  w2c_j1 += w2c_j2;
+  w2c_i1 = (u32)(w2c_j1);
+  w2c_j1 = i64_load(&instance->w2c_memory, (u64)(w2c_i1));
+  i64_store(&instance->w2c_memory, (u64)(w2c_i0) + 13, w2c_j1);
+  w2c_j0 = w2c_p2;
+  w2c_i0 = (u32)(w2c_j0);
+  w2c_i1 = w2c_l10;
+  i32_store(&instance->w2c_memory, (u64)(w2c_i0) + 9, w2c_i1);
+  w2c_j0 = w2c_p2;
+  w2c_i0 = (u32)(w2c_j0);
+  w2c_j1 = w2c_l4;
+  w2c_i1 = (u32)(w2c_j1);
+  w2c_i2 = 1u;
+  w2c_i1 -= w2c_i2;
+  i32_store(&instance->w2c_memory, (u64)(w2c_i0) + 5, w2c_i1);
+  w2c_j0 = w2c_p2;
+  w2c_i0 = (u32)(w2c_j0);
+  w2c_i1 = w2c_p1;
+  i32_store(&instance->w2c_memory, (u64)(w2c_i0) + 1, w2c_i1);
+  w2c_j0 = w2c_p2;
+  w2c_i0 = (u32)(w2c_j0);
+  w2c_i1 = 1u;
+  i32_store8(&instance->w2c_memory, (u64)(w2c_i0), w2c_i1);
+  w2c_j0 = w2c_p0;
+  w2c_j1 = 240ull;
+  w2c_j0 += w2c_j1;
+  w2c_i0 = (u32)(w2c_j0);
+  w2c_j0 = i64_load(&instance->w2c_memory, (u64)(w2c_i0));
+  w2c_j1 = w2c_l5;
+  w2c_j2 = 4ull;
+  w2c_j1 <<= (w2c_j2 & 63);
+  w2c_j0 += w2c_j1;
+  w2c_p0 = w2c_j0;
+  w2c_i0 = (u32)(w2c_j0);
+  w2c_i0 = i32_load8_u(&instance->w2c_memory, (u64)(w2c_i0));
+  w2c_p1 = w2c_i0;
+  w2c_j0 = w2c_p0;
+  w2c_i0 = (u32)(w2c_j0);
+  w2c_j1 = 1ull;
+  i64_store(&instance->w2c_memory, (u64)(w2c_i0), w2c_j1);
+  w2c_j0 = w2c_p0;
+  w2c_j1 = 8ull;
+  w2c_j0 += w2c_j1;
+  w2c_p2 = w2c_j0;
+  w2c_i0 = (u32)(w2c_j0);
+  w2c_j0 = i64_load(&instance->w2c_memory, (u64)(w2c_i0));
+  w2c_p0 = w2c_j0;
+  w2c_j0 = w2c_p2;
+  w2c_i0 = (u32)(w2c_j0);
+  w2c_j1 = w2c_p3;
+  i64_store(&instance->w2c_memory, (u64)(w2c_i0), w2c_j1);
+  w2c_j0 = 21ull;
+  w2c_p3 = w2c_j0;
+  w2c_i0 = w2c_p1;
+  w2c_i1 = 1u;
+  w2c_i0 = w2c_i0 != w2c_i1;
+  if (w2c_i0) {goto w2c_B0;}
+  w2c_j0 = w2c_p0;
+  w2c_i0 = (u32)(w2c_j0);
+  w2c_j0 = i64_load(&instance->w2c_memory, (u64)(w2c_i0) + 48u);
+  w2c_l5 = w2c_j0;
+  w2c_j0 = w2c_p0;
+  w2c_i0 = (u32)(w2c_j0);
+  w2c_j0 = i64_load(&instance->w2c_memory, (u64)(w2c_i0) + 64u);
+  w2c_p2 = w2c_j0;
+  w2c_j0 = w2c_p0;
+  w2c_leave(instance, w2c_j0);
+  w2c_j0 = w2c_p2;
+  w2c_i0 = !(w2c_j0);
+  if (w2c_i0) {goto w2c_B0;}
+  w2c_j0 = w2c_l5;
+  w2c_leave(instance, w2c_j0);
+  w2c_j0 = 21ull;
+  goto w2c_Bfunc;
+  w2c_B4:;
+  UNREACHABLE;
+  w2c_B0:;
+  w2c_j0 = w2c_p3;
+  w2c_Bfunc:;
+  FUNC_EPILOGUE;
+  return w2c_j0;
+}
+
+static void w2c_f74(Z_dine_ffi_instance_t* instance, u64 w2c_p0, u64 w2c_p1) {
   u32 w2c_l2 = 0, w2c_l3 = 0, w2c_l4 = 0, w2c_l5 = 0;
   u64 w2c_l6 = 0, w2c_l7 = 0, w2c_l8 = 0, w2c_l9 = 0;
   FUNC_PROLOGUE;
@@ -70940,7 +71332,7 @@ static void w2c_f73(Z_dine_ffi_instance_t* instance, u64 w2c_p0, u64 w2c_p1) {
   FUNC_EPILOGUE;
 }
 
-static void w2c_f74(Z_dine_ffi_instance_t* instance, u64 w2c_p0, u64 w2c_p1, u32 w2c_p2) {
+static void w2c_f75(Z_dine_ffi_instance_t* instance, u64 w2c_p0, u64 w2c_p1, u32 w2c_p2) {
   u32 w2c_l17 = 0;
   u64 w2c_l3 = 0, w2c_l4 = 0, w2c_l5 = 0, w2c_l6 = 0, w2c_l7 = 0, w2c_l8 = 0, w2c_l9 = 0, w2c_l10 = 0, 
       w2c_l11 = 0, w2c_l12 = 0, w2c_l13 = 0, w2c_l14 = 0, w2c_l15 = 0, w2c_l16 = 0;
@@ -71075,7 +71467,7 @@ static void w2c_f74(Z_dine_ffi_instance_t* instance, u64 w2c_p0, u64 w2c_p1, u32
         w2c_l16 = w2c_j1;
         w2c_j2 = 12ull;
         w2c_j1 *= w2c_j2;
-        w2c_f121(instance, w2c_j0, w2c_j1);
+        w2c_f123(instance, w2c_j0, w2c_j1);
         w2c_j0 = w2c_l3;
         w2c_i0 = (u32)(w2c_j0);
         w2c_i0 = i32_load(&instance->w2c_memory, (u64)(w2c_i0) + 24u);
@@ -71097,7 +71489,7 @@ static void w2c_f74(Z_dine_ffi_instance_t* instance, u64 w2c_p0, u64 w2c_p1, u32
           w2c_j1 = 8ull;
           w2c_j0 += w2c_j1;
           w2c_j1 = 72ull;
-          w2c_f121(instance, w2c_j0, w2c_j1);
+          w2c_f123(instance, w2c_j0, w2c_j1);
           w2c_j0 = w2c_l3;
           w2c_i0 = (u32)(w2c_j0);
           w2c_j0 = i64_load(&instance->w2c_memory, (u64)(w2c_i0) + 8u);
@@ -71441,7 +71833,7 @@ static void w2c_f74(Z_dine_ffi_instance_t* instance, u64 w2c_p0, u64 w2c_p1, u32
   FUNC_EPILOGUE;
 }
 
-static void w2c_f75(Z_dine_ffi_instance_t* instance, u64 w2c_p0, u64 w2c_p1, u32 w2c_p2) {
+static void w2c_f76(Z_dine_ffi_instance_t* instance, u64 w2c_p0, u64 w2c_p1, u32 w2c_p2) {
   u32 w2c_l8 = 0;
   u64 w2c_l3 = 0, w2c_l4 = 0, w2c_l5 = 0, w2c_l6 = 0, w2c_l7 = 0;
   FUNC_PROLOGUE;
@@ -71635,7 +72027,7 @@ static void w2c_f75(Z_dine_ffi_instance_t* instance, u64 w2c_p0, u64 w2c_p1, u32
   FUNC_EPILOGUE;
 }
 
-static void w2c_f76(Z_dine_ffi_instance_t* instance, u64 w2c_p0, u64 w2c_p1, u32 w2c_p2, u64 w2c_p3, u64 w2c_p4) {
+static void w2c_f77(Z_dine_ffi_instance_t* instance, u64 w2c_p0, u64 w2c_p1, u32 w2c_p2, u64 w2c_p3, u64 w2c_p4) {
   u32 w2c_l25 = 0, w2c_l26 = 0, w2c_l27 = 0, w2c_l28 = 0, w2c_l29 = 0, w2c_l30 = 0, w2c_l31 = 0, w2c_l32 = 0, 
       w2c_l33 = 0, w2c_l34 = 0;
   u64 w2c_l5 = 0, w2c_l6 = 0, w2c_l7 = 0, w2c_l8 = 0, w2c_l9 = 0, w2c_l10 = 0, w2c_l11 = 0, w2c_l12 = 0, 
@@ -71778,7 +72170,7 @@ static void w2c_f76(Z_dine_ffi_instance_t* instance, u64 w2c_p0, u64 w2c_p1, u32
   w2c_j1 = w2c_l12;
   w2c_j2 = 56ull;
   w2c_j1 *= w2c_j2;
-  w2c_f121(instance, w2c_j0, w2c_j1);
+  w2c_f123(instance, w2c_j0, w2c_j1);
   w2c_j0 = w2c_l5;
   w2c_i0 = (u32)(w2c_j0);
   w2c_j0 = i64_load(&instance->w2c_memory, (u64)(w2c_i0) + 64u);
@@ -72295,7 +72687,7 @@ static void w2c_f76(Z_dine_ffi_instance_t* instance, u64 w2c_p0, u64 w2c_p1, u32
   w2c_j0 = w2c_l5;
   w2c_j1 = 176ull;
   w2c_j0 += w2c_j1;
-  w2c_f77(instance, w2c_j0);
+  w2c_f78(instance, w2c_j0);
   w2c_j0 = w2c_l5;
   w2c_i0 = (u32)(w2c_j0);
   w2c_j0 = i64_load(&instance->w2c_memory, (u64)(w2c_i0) + 232u);
@@ -72457,7 +72849,7 @@ static void w2c_f76(Z_dine_ffi_instance_t* instance, u64 w2c_p0, u64 w2c_p1, u32
   w2c_j0 = w2c_l5;
   w2c_j1 = 136ull;
   w2c_j0 += w2c_j1;
-  w2c_f77(instance, w2c_j0);
+  w2c_f78(instance, w2c_j0);
   w2c_j0 = w2c_l5;
   w2c_i0 = (u32)(w2c_j0);
   w2c_j1 = w2c_l13;
@@ -72535,7 +72927,7 @@ static void w2c_f76(Z_dine_ffi_instance_t* instance, u64 w2c_p0, u64 w2c_p1, u32
   w2c_j1 = w2c_l10;
   w2c_j2 = 4ull;
   w2c_j1 <<= (w2c_j2 & 63);
-  w2c_f121(instance, w2c_j0, w2c_j1);
+  w2c_f123(instance, w2c_j0, w2c_j1);
   w2c_j0 = w2c_l5;
   w2c_i0 = (u32)(w2c_j0);
   w2c_j0 = i64_load(&instance->w2c_memory, (u64)(w2c_i0) + 48u);
@@ -72713,7 +73105,7 @@ static void w2c_f76(Z_dine_ffi_instance_t* instance, u64 w2c_p0, u64 w2c_p1, u32
   w2c_j2 = 3ull;
   w2c_j1 <<= (w2c_j2 & 63);
   w2c_l9 = w2c_j1;
-  w2c_f121(instance, w2c_j0, w2c_j1);
+  w2c_f123(instance, w2c_j0, w2c_j1);
   w2c_j0 = w2c_l5;
   w2c_i0 = (u32)(w2c_j0);
   w2c_j0 = i64_load(&instance->w2c_memory, (u64)(w2c_i0) + 32u);
@@ -72732,7 +73124,7 @@ static void w2c_f76(Z_dine_ffi_instance_t* instance, u64 w2c_p0, u64 w2c_p1, u32
   w2c_j1 = w2c_p4;
   w2c_j2 = 2ull;
   w2c_j1 <<= (w2c_j2 & 63);
-  w2c_f121(instance, w2c_j0, w2c_j1);
+  w2c_f123(instance, w2c_j0, w2c_j1);
   w2c_j0 = w2c_l5;
   w2c_i0 = (u32)(w2c_j0);
   w2c_j0 = i64_load(&instance->w2c_memory, (u64)(w2c_i0) + 16u);
@@ -72747,7 +73139,7 @@ static void w2c_f76(Z_dine_ffi_instance_t* instance, u64 w2c_p0, u64 w2c_p1, u32
   w2c_l8 = w2c_j0;
   w2c_j0 = w2c_l5;
   w2c_j1 = w2c_l9;
-  w2c_f121(instance, w2c_j0, w2c_j1);
+  w2c_f123(instance, w2c_j0, w2c_j1);
   w2c_j0 = w2c_l5;
   w2c_i0 = (u32)(w2c_j0);
   w2c_j0 = i64_load(&instance->w2c_memory, (u64)(w2c_i0));
@@ -73119,7 +73511,7 @@ static void w2c_f76(Z_dine_ffi_instance_t* instance, u64 w2c_p0, u64 w2c_p1, u32
   FUNC_EPILOGUE;
 }
 
-static void w2c_f77(Z_dine_ffi_instance_t* instance, u64 w2c_p0) {
+static void w2c_f78(Z_dine_ffi_instance_t* instance, u64 w2c_p0) {
   u64 w2c_l1 = 0, w2c_l2 = 0, w2c_l3 = 0, w2c_l4 = 0, w2c_l5 = 0, w2c_l6 = 0, w2c_l7 = 0;
   FUNC_PROLOGUE;
   u32 w2c_i0, w2c_i3;
@@ -73240,7 +73632,7 @@ static void w2c_f77(Z_dine_ffi_instance_t* instance, u64 w2c_p0) {
   FUNC_EPILOGUE;
 }
 
-static u32 w2c_f78(Z_dine_ffi_instance_t* instance, u64 w2c_p0, u32 w2c_p1) {
+static u32 w2c_f79(Z_dine_ffi_instance_t* instance, u64 w2c_p0, u32 w2c_p1) {
   u32 w2c_l8 = 0;
   u64 w2c_l2 = 0, w2c_l3 = 0, w2c_l4 = 0, w2c_l5 = 0, w2c_l6 = 0, w2c_l7 = 0;
   FUNC_PROLOGUE;
@@ -73448,7 +73840,7 @@ static u32 w2c_f78(Z_dine_ffi_instance_t* instance, u64 w2c_p0, u32 w2c_p1) {
   return w2c_i0;
 }
 
-static void w2c_f79(Z_dine_ffi_instance_t* instance, u64 w2c_p0, u64 w2c_p1, u32 w2c_p2) {
+static void w2c_f80(Z_dine_ffi_instance_t* instance, u64 w2c_p0, u64 w2c_p1, u32 w2c_p2) {
   u32 w2c_l10 = 0, w2c_l11 = 0, w2c_l12 = 0, w2c_l13 = 0, w2c_l14 = 0;
   u64 w2c_l3 = 0, w2c_l4 = 0, w2c_l5 = 0, w2c_l6 = 0, w2c_l7 = 0, w2c_l8 = 0, w2c_l9 = 0;
   FUNC_PROLOGUE;
@@ -73490,7 +73882,7 @@ static void w2c_f79(Z_dine_ffi_instance_t* instance, u64 w2c_p0, u64 w2c_p1, u32
       if (w2c_i0) {
         w2c_j0 = w2c_p1;
         w2c_i1 = w2c_l13;
-        w2c_i0 = w2c_f78(instance, w2c_j0, w2c_i1);
+        w2c_i0 = w2c_f79(instance, w2c_j0, w2c_i1);
         goto w2c_B9;
       }
       w2c_j0 = w2c_l9;
@@ -74007,7 +74399,7 @@ static void w2c_f79(Z_dine_ffi_instance_t* instance, u64 w2c_p0, u64 w2c_p1, u32
   FUNC_EPILOGUE;
 }
 
-static void w2c_f80(Z_dine_ffi_instance_t* instance, u64 w2c_p0, u64 w2c_p1) {
+static void w2c_f81(Z_dine_ffi_instance_t* instance, u64 w2c_p0, u64 w2c_p1) {
   u32 w2c_l12 = 0, w2c_l13 = 0, w2c_l14 = 0, w2c_l15 = 0, w2c_l16 = 0, w2c_l17 = 0;
   u64 w2c_l2 = 0, w2c_l3 = 0, w2c_l4 = 0, w2c_l5 = 0, w2c_l6 = 0, w2c_l7 = 0, w2c_l8 = 0, w2c_l9 = 0, 
       w2c_l10 = 0, w2c_l11 = 0;
@@ -74291,7 +74683,7 @@ static void w2c_f80(Z_dine_ffi_instance_t* instance, u64 w2c_p0, u64 w2c_p1) {
   w2c_j0 = w2c_l2;
   w2c_i1 = w2c_l13;
   w2c_j2 = w2c_l5;
-  w2c_f81(instance, w2c_j0, w2c_i1, w2c_j2);
+  w2c_f82(instance, w2c_j0, w2c_i1, w2c_j2);
   goto w2c_B4;
   w2c_B9:;
   w2c_i0 = 0u;
@@ -74982,7 +75374,7 @@ static void w2c_f80(Z_dine_ffi_instance_t* instance, u64 w2c_p0, u64 w2c_p1) {
   FUNC_EPILOGUE;
 }
 
-static void w2c_f81(Z_dine_ffi_instance_t* instance, u64 w2c_p0, u32 w2c_p1, u64 w2c_p2) {
+static void w2c_f82(Z_dine_ffi_instance_t* instance, u64 w2c_p0, u32 w2c_p1, u64 w2c_p2) {
   u64 w2c_l3 = 0, w2c_l4 = 0, w2c_l5 = 0;
   FUNC_PROLOGUE;
   u32 w2c_i0, w2c_i1, w2c_i3;
@@ -75163,7 +75555,7 @@ static void w2c_f81(Z_dine_ffi_instance_t* instance, u64 w2c_p0, u32 w2c_p1, u64
   FUNC_EPILOGUE;
 }
 
-static void w2c_f82(Z_dine_ffi_instance_t* instance, u64 w2c_p0, u64 w2c_p1, u32 w2c_p2) {
+static void w2c_f83(Z_dine_ffi_instance_t* instance, u64 w2c_p0, u64 w2c_p1, u32 w2c_p2) {
   u32 w2c_l13 = 0, w2c_l14 = 0, w2c_l15 = 0;
   u64 w2c_l3 = 0, w2c_l4 = 0, w2c_l5 = 0, w2c_l6 = 0, w2c_l7 = 0, w2c_l8 = 0, w2c_l9 = 0, w2c_l10 = 0, 
       w2c_l11 = 0, w2c_l12 = 0;
@@ -75550,7 +75942,7 @@ static void w2c_f82(Z_dine_ffi_instance_t* instance, u64 w2c_p0, u64 w2c_p1, u32
   FUNC_EPILOGUE;
 }
 
-static void w2c_f83(Z_dine_ffi_instance_t* instance, u64 w2c_p0, u64 w2c_p1, u32 w2c_p2, u64 w2c_p3) {
+static void w2c_f84(Z_dine_ffi_instance_t* instance, u64 w2c_p0, u64 w2c_p1, u32 w2c_p2, u64 w2c_p3) {
   u32 w2c_l7 = 0, w2c_l8 = 0, w2c_l9 = 0, w2c_l10 = 0, w2c_l11 = 0, w2c_l12 = 0, w2c_l13 = 0, w2c_l14 = 0;
   u64 w2c_l4 = 0, w2c_l5 = 0, w2c_l6 = 0;
   FUNC_PROLOGUE;
@@ -76029,7 +76421,7 @@ static void w2c_f83(Z_dine_ffi_instance_t* instance, u64 w2c_p0, u64 w2c_p1, u32
   w2c_j0 = w2c_p1;
   w2c_i1 = w2c_p2;
   w2c_j2 = w2c_l6;
-  w2c_f81(instance, w2c_j0, w2c_i1, w2c_j2);
+  w2c_f82(instance, w2c_j0, w2c_i1, w2c_j2);
   w2c_j0 = 0ull;
   w2c_l5 = w2c_j0;
   w2c_i0 = 0u;
@@ -76080,7 +76472,7 @@ static void w2c_f83(Z_dine_ffi_instance_t* instance, u64 w2c_p0, u64 w2c_p1, u32
   FUNC_EPILOGUE;
 }
 
-static u32 w2c_f84(Z_dine_ffi_instance_t* instance, u64 w2c_p0, u64 w2c_p1, u64 w2c_p2) {
+static u32 w2c_f85(Z_dine_ffi_instance_t* instance, u64 w2c_p0, u64 w2c_p1, u64 w2c_p2) {
   u32 w2c_l12 = 0, w2c_l13 = 0, w2c_l14 = 0, w2c_l15 = 0, w2c_l16 = 0;
   u64 w2c_l3 = 0, w2c_l4 = 0, w2c_l5 = 0, w2c_l6 = 0, w2c_l7 = 0, w2c_l8 = 0, w2c_l9 = 0, w2c_l10 = 0, 
       w2c_l11 = 0;
@@ -77187,6 +77579,868 @@ static u64 w2c_dine_raw_plan_version(Z_dine_ffi_instance_t* instance, u64 w2c_p0
   return w2c_j0;
 }
 
+static u64 w2c_dine_raw_site_act(Z_dine_ffi_instance_t* instance, u64 w2c_p0, u64 w2c_p1, u64 w2c_p2, u64 w2c_p3) {
+  u32 w2c_l9 = 0, w2c_l10 = 0;
+  u64 w2c_l4 = 0, w2c_l5 = 0, w2c_l6 = 0, w2c_l7 = 0, w2c_l8 = 0;
+  FUNC_PROLOGUE;
+  u32 w2c_i0, w2c_i1, w2c_i2, w2c_i3;
+  u64 w2c_j0, w2c_j1, w2c_j2, w2c_j3;
+  w2c_j0 = instance->w2c_g0;
+  w2c_j1 = 32ull;
+  w2c_j0 -= w2c_j1;
+  w2c_l6 = w2c_j0;
+  instance->w2c_g0 = w2c_j0;
+  w2c_j0 = w2c_p0;
+  w2c_i0 = (u32)(w2c_j0);
+  w2c_j0 = i64_load(&instance->w2c_memory, (u64)(w2c_i0));
+  w2c_l4 = w2c_j0;
+  w2c_j0 = w2c_p0;
+  w2c_i0 = (u32)(w2c_j0);
+  w2c_j1 = 0ull;
+  i64_store(&instance->w2c_memory, (u64)(w2c_i0), w2c_j1);
+  w2c_j0 = w2c_p0;
+  w2c_i0 = (u32)(w2c_j0);
+  w2c_i0 = i32_load(&instance->w2c_memory, (u64)(w2c_i0) + 8u);
+  w2c_l9 = w2c_i0;
+  w2c_j0 = w2c_p0;
+  w2c_i0 = (u32)(w2c_j0);
+  w2c_j1 = 0ull;
+  i64_store(&instance->w2c_memory, (u64)(w2c_i0) + 8, w2c_j1);
+  w2c_j0 = 18446744073709551615ull;
+  w2c_l5 = w2c_j0;
+  w2c_i0 = w2c_l9;
+  w2c_i1 = 1701734756u;
+  w2c_i0 = w2c_i0 == w2c_i1;
+  if (w2c_i0) {
+    w2c_j0 = w2c_l4;
+    w2c_i0 = (u32)(w2c_j0);
+    w2c_i0 = i32_load8_u(&instance->w2c_memory, (u64)(w2c_i0));
+    w2c_i1 = 2u;
+    w2c_i0 = w2c_i0 != w2c_i1;
+    if (w2c_i0) {
+      w2c_j0 = 18446744073709551614ull;
+      w2c_l5 = w2c_j0;
+      goto w2c_B2;
+    }
+    w2c_j0 = 18446744073709551612ull;
+    w2c_l5 = w2c_j0;
+    w2c_j0 = w2c_p1;
+    w2c_i0 = (u32)(w2c_j0);
+    w2c_i0 = i32_load(&instance->w2c_memory, (u64)(w2c_i0));
+    w2c_l9 = w2c_i0;
+    w2c_j1 = w2c_l4;
+    w2c_j2 = 16ull;
+    w2c_j1 += w2c_j2;
+    w2c_l8 = w2c_j1;
+    w2c_i1 = (u32)(w2c_j1);
+    w2c_i1 = i32_load(&instance->w2c_memory, (u64)(w2c_i1));
+    w2c_i0 = w2c_i0 != w2c_i1;
+    if (w2c_i0) {goto w2c_B2;}
+    w2c_j0 = w2c_p2;
+    w2c_j1 = 4096ull;
+    w2c_j2 = 0ull;
+    w2c_j3 = w2c_p2;
+    w2c_i3 = !(w2c_j3);
+    w2c_j1 = w2c_i3 ? w2c_j1 : w2c_j2;
+    w2c_j0 += w2c_j1;
+    w2c_l7 = w2c_j0;
+    w2c_j0 = w2c_l4;
+    w2c_j1 = 8ull;
+    w2c_j0 += w2c_j1;
+    w2c_p2 = w2c_j0;
+    w2c_j0 = w2c_p1;
+    w2c_i0 = (u32)(w2c_j0);
+    w2c_i0 = i32_load(&instance->w2c_memory, (u64)(w2c_i0) + 8u);
+    w2c_l10 = w2c_i0;
+    w2c_j0 = w2c_p1;
+    w2c_i0 = (u32)(w2c_j0);
+    w2c_i0 = i32_load(&instance->w2c_memory, (u64)(w2c_i0) + 4u);
+    w2c_i1 = 1u;
+    w2c_i0 -= w2c_i1;
+    switch (w2c_i0) {
+      case 0: goto w2c_B8;
+      case 1: goto w2c_B10;
+      case 2: goto w2c_B11;
+      case 3: goto w2c_B9;
+      case 4: goto w2c_B12;
+      case 5: goto w2c_B7;
+      case 6: goto w2c_B6;
+      case 7: goto w2c_B5;
+      default: goto w2c_B2;
+    }
+    w2c_B12:;
+    w2c_j0 = w2c_l4;
+    w2c_j1 = 208ull;
+    w2c_j0 += w2c_j1;
+    w2c_i0 = (u32)(w2c_j0);
+    w2c_i0 = i32_load8_u(&instance->w2c_memory, (u64)(w2c_i0));
+    w2c_i1 = 1u;
+    w2c_i0 = w2c_i0 == w2c_i1;
+    if (w2c_i0) {
+      w2c_j0 = 18446744073709551609ull;
+      w2c_l5 = w2c_j0;
+      goto w2c_B2;
+    }
+    w2c_j0 = 18446744073709551613ull;
+    w2c_l5 = w2c_j0;
+    w2c_j0 = w2c_l4;
+    w2c_j1 = 49ull;
+    w2c_j0 += w2c_j1;
+    w2c_i0 = (u32)(w2c_j0);
+    w2c_i0 = i32_load8_u(&instance->w2c_memory, (u64)(w2c_i0));
+    if (w2c_i0) {goto w2c_B2;}
+    w2c_j0 = w2c_l4;
+    w2c_j1 = 52ull;
+    w2c_j0 += w2c_j1;
+    w2c_i0 = (u32)(w2c_j0);
+    w2c_i0 = i32_load(&instance->w2c_memory, (u64)(w2c_i0));
+    w2c_j1 = w2c_l4;
+    w2c_j2 = 20ull;
+    w2c_j1 += w2c_j2;
+    w2c_i1 = (u32)(w2c_j1);
+    w2c_i1 = i32_load(&instance->w2c_memory, (u64)(w2c_i1));
+    w2c_i0 = w2c_i0 >= w2c_i1;
+    if (w2c_i0) {goto w2c_B2;}
+    w2c_j0 = w2c_l4;
+    w2c_j1 = 56ull;
+    w2c_j0 += w2c_j1;
+    w2c_i0 = (u32)(w2c_j0);
+    w2c_i0 = i32_load8_u(&instance->w2c_memory, (u64)(w2c_i0));
+    if (w2c_i0) {goto w2c_B2;}
+    w2c_j0 = w2c_l4;
+    w2c_j1 = 57ull;
+    w2c_j0 += w2c_j1;
+    w2c_i0 = (u32)(w2c_j0);
+    w2c_i0 = i32_load8_u(&instance->w2c_memory, (u64)(w2c_i0));
+    if (w2c_i0) {goto w2c_B2;}
+    w2c_j0 = w2c_l4;
+    w2c_j1 = 49ull;
+    w2c_j0 += w2c_j1;
+    w2c_i0 = (u32)(w2c_j0);
+    w2c_i1 = 1u;
+    i32_store8(&instance->w2c_memory, (u64)(w2c_i0), w2c_i1);
+    w2c_j0 = 0ull;
+    w2c_l5 = w2c_j0;
+    goto w2c_B2;
+    w2c_B11:;
+    w2c_j0 = w2c_l6;
+    w2c_i0 = (u32)(w2c_j0);
+    w2c_j1 = 0ull;
+    i64_store(&instance->w2c_memory, (u64)(w2c_i0) + 24, w2c_j1);
+    w2c_j0 = w2c_l6;
+    w2c_i0 = (u32)(w2c_j0);
+    w2c_j1 = 0ull;
+    i64_store(&instance->w2c_memory, (u64)(w2c_i0) + 16, w2c_j1);
+    w2c_j0 = w2c_l6;
+    w2c_i0 = (u32)(w2c_j0);
+    w2c_j1 = 0ull;
+    i64_store(&instance->w2c_memory, (u64)(w2c_i0) + 8, w2c_j1);
+    w2c_j0 = w2c_l6;
+    w2c_i0 = (u32)(w2c_j0);
+    w2c_j1 = 0ull;
+    i64_store(&instance->w2c_memory, (u64)(w2c_i0), w2c_j1);
+    w2c_j0 = w2c_l4;
+    w2c_j1 = 208ull;
+    w2c_j0 += w2c_j1;
+    w2c_i0 = (u32)(w2c_j0);
+    w2c_i0 = i32_load8_u(&instance->w2c_memory, (u64)(w2c_i0));
+    w2c_i1 = 1u;
+    w2c_i0 = w2c_i0 == w2c_i1;
+    if (w2c_i0) {
+      w2c_j0 = 18446744073709551609ull;
+      w2c_l5 = w2c_j0;
+      goto w2c_B2;
+    }
+    w2c_j0 = 18446744073709551613ull;
+    w2c_l5 = w2c_j0;
+    w2c_j0 = w2c_l4;
+    w2c_j1 = 49ull;
+    w2c_j0 += w2c_j1;
+    w2c_i0 = (u32)(w2c_j0);
+    w2c_i0 = i32_load8_u(&instance->w2c_memory, (u64)(w2c_i0));
+    w2c_i1 = 1u;
+    w2c_i0 = w2c_i0 != w2c_i1;
+    if (w2c_i0) {goto w2c_B2;}
+    w2c_j0 = w2c_l4;
+    w2c_j1 = 88ull;
+    w2c_j0 += w2c_j1;
+    w2c_i0 = (u32)(w2c_j0);
+    w2c_j0 = i64_load(&instance->w2c_memory, (u64)(w2c_i0));
+    w2c_j1 = 0ull;
+    w2c_i0 = w2c_j0 != w2c_j1;
+    if (w2c_i0) {goto w2c_B2;}
+    w2c_j0 = w2c_l4;
+    w2c_j1 = 104ull;
+    w2c_j0 += w2c_j1;
+    w2c_i0 = (u32)(w2c_j0);
+    w2c_j0 = i64_load(&instance->w2c_memory, (u64)(w2c_i0));
+    w2c_j1 = w2c_l4;
+    w2c_j2 = 96ull;
+    w2c_j1 += w2c_j2;
+    w2c_i1 = (u32)(w2c_j1);
+    w2c_j1 = i64_load(&instance->w2c_memory, (u64)(w2c_i1));
+    w2c_j0 &= w2c_j1;
+    w2c_j1 = 0ull;
+    w2c_i0 = w2c_j0 != w2c_j1;
+    if (w2c_i0) {goto w2c_B2;}
+    w2c_j0 = w2c_l6;
+    w2c_j1 = w2c_l8;
+    w2c_f72(instance, w2c_j0, w2c_j1);
+    w2c_j0 = w2c_l4;
+    w2c_j1 = 208ull;
+    w2c_j0 += w2c_j1;
+    w2c_l5 = w2c_j0;
+    w2c_i0 = (u32)(w2c_j0);
+    w2c_i0 = i32_load8_u(&instance->w2c_memory, (u64)(w2c_i0));
+    w2c_l9 = w2c_i0;
+    w2c_j0 = w2c_l5;
+    w2c_i0 = (u32)(w2c_j0);
+    w2c_j1 = 1ull;
+    i64_store(&instance->w2c_memory, (u64)(w2c_i0), w2c_j1);
+    w2c_j0 = w2c_l4;
+    w2c_j1 = 216ull;
+    w2c_j0 += w2c_j1;
+    w2c_i0 = (u32)(w2c_j0);
+    w2c_j1 = w2c_l6;
+    w2c_i1 = (u32)(w2c_j1);
+    w2c_j1 = i64_load(&instance->w2c_memory, (u64)(w2c_i1));
+    i64_store(&instance->w2c_memory, (u64)(w2c_i0), w2c_j1);
+    w2c_j0 = w2c_l4;
+    w2c_j1 = 224ull;
+    w2c_j0 += w2c_j1;
+    w2c_i0 = (u32)(w2c_j0);
+    w2c_j1 = w2c_l6;
+    w2c_i1 = (u32)(w2c_j1);
+    w2c_j1 = i64_load(&instance->w2c_memory, (u64)(w2c_i1) + 8u);
+    i64_store(&instance->w2c_memory, (u64)(w2c_i0), w2c_j1);
+    w2c_j0 = w2c_l4;
+    w2c_j1 = 232ull;
+    w2c_j0 += w2c_j1;
+    w2c_i0 = (u32)(w2c_j0);
+    w2c_j1 = w2c_l6;
+    w2c_i1 = (u32)(w2c_j1);
+    w2c_j1 = i64_load(&instance->w2c_memory, (u64)(w2c_i1) + 16u);
+    i64_store(&instance->w2c_memory, (u64)(w2c_i0), w2c_j1);
+    w2c_j0 = w2c_l4;
+    w2c_j1 = 240ull;
+    w2c_j0 += w2c_j1;
+    w2c_i0 = (u32)(w2c_j0);
+    w2c_j1 = w2c_l6;
+    w2c_i1 = (u32)(w2c_j1);
+    w2c_j1 = i64_load(&instance->w2c_memory, (u64)(w2c_i1) + 24u);
+    i64_store(&instance->w2c_memory, (u64)(w2c_i0), w2c_j1);
+    w2c_i0 = w2c_l9;
+    w2c_i1 = 1u;
+    w2c_i0 = w2c_i0 == w2c_i1;
+    if (w2c_i0) {goto w2c_B0;}
+    w2c_j0 = 0ull;
+    w2c_l5 = w2c_j0;
+    goto w2c_B2;
+    w2c_B10:;
+    w2c_j0 = w2c_l4;
+    w2c_j1 = 216ull;
+    w2c_j0 += w2c_j1;
+    w2c_l5 = w2c_j0;
+    w2c_i0 = (u32)(w2c_j0);
+    w2c_j0 = i64_load(&instance->w2c_memory, (u64)(w2c_i0));
+    w2c_p1 = w2c_j0;
+    w2c_j0 = w2c_l5;
+    w2c_i0 = (u32)(w2c_j0);
+    w2c_j1 = 0ull;
+    i64_store(&instance->w2c_memory, (u64)(w2c_i0), w2c_j1);
+    w2c_j0 = w2c_l4;
+    w2c_j1 = 224ull;
+    w2c_j0 += w2c_j1;
+    w2c_l5 = w2c_j0;
+    w2c_i0 = (u32)(w2c_j0);
+    w2c_j0 = i64_load(&instance->w2c_memory, (u64)(w2c_i0));
+    w2c_p2 = w2c_j0;
+    w2c_j0 = w2c_l5;
+    w2c_i0 = (u32)(w2c_j0);
+    w2c_j1 = 0ull;
+    i64_store(&instance->w2c_memory, (u64)(w2c_i0), w2c_j1);
+    w2c_j0 = w2c_l4;
+    w2c_j1 = 232ull;
+    w2c_j0 += w2c_j1;
+    w2c_l5 = w2c_j0;
+    w2c_i0 = (u32)(w2c_j0);
+    w2c_j0 = i64_load(&instance->w2c_memory, (u64)(w2c_i0));
+    w2c_p3 = w2c_j0;
+    w2c_j0 = w2c_l5;
+    w2c_i0 = (u32)(w2c_j0);
+    w2c_j1 = 0ull;
+    i64_store(&instance->w2c_memory, (u64)(w2c_i0), w2c_j1);
+    w2c_j0 = w2c_l4;
+    w2c_j1 = 240ull;
+    w2c_j0 += w2c_j1;
+    w2c_l5 = w2c_j0;
+    w2c_i0 = (u32)(w2c_j0);
+    w2c_j0 = i64_load(&instance->w2c_memory, (u64)(w2c_i0));
+    w2c_l7 = w2c_j0;
+    w2c_j0 = w2c_l5;
+    w2c_i0 = (u32)(w2c_j0);
+    w2c_j1 = 0ull;
+    i64_store(&instance->w2c_memory, (u64)(w2c_i0), w2c_j1);
+    w2c_j0 = w2c_l4;
+    w2c_j1 = 208ull;
+    w2c_j0 += w2c_j1;
+    w2c_l5 = w2c_j0;
+    w2c_i0 = (u32)(w2c_j0);
+    w2c_i0 = i32_load8_u(&instance->w2c_memory, (u64)(w2c_i0));
+    w2c_l9 = w2c_i0;
+    w2c_j0 = w2c_l5;
+    w2c_i0 = (u32)(w2c_j0);
+    w2c_j1 = 0ull;
+    i64_store(&instance->w2c_memory, (u64)(w2c_i0), w2c_j1);
+    w2c_j0 = w2c_l6;
+    w2c_i0 = (u32)(w2c_j0);
+    w2c_j1 = w2c_p1;
+    i64_store(&instance->w2c_memory, (u64)(w2c_i0), w2c_j1);
+    w2c_j0 = w2c_l6;
+    w2c_i0 = (u32)(w2c_j0);
+    w2c_j1 = w2c_p2;
+    i64_store(&instance->w2c_memory, (u64)(w2c_i0) + 8, w2c_j1);
+    w2c_j0 = w2c_l6;
+    w2c_i0 = (u32)(w2c_j0);
+    w2c_j1 = w2c_p3;
+    i64_store(&instance->w2c_memory, (u64)(w2c_i0) + 16, w2c_j1);
+    w2c_j0 = w2c_l6;
+    w2c_i0 = (u32)(w2c_j0);
+    w2c_j1 = w2c_l7;
+    i64_store(&instance->w2c_memory, (u64)(w2c_i0) + 24, w2c_j1);
+    w2c_j0 = 18446744073709551613ull;
+    w2c_l5 = w2c_j0;
+    w2c_i0 = w2c_l9;
+    w2c_i1 = 1u;
+    w2c_i0 = w2c_i0 != w2c_i1;
+    if (w2c_i0) {goto w2c_B2;}
+    w2c_j0 = w2c_l8;
+    w2c_j1 = w2c_l6;
+    w2c_i2 = 0u;
+    w2c_f70(instance, w2c_j0, w2c_j1, w2c_i2);
+    w2c_j0 = 0ull;
+    w2c_l5 = w2c_j0;
+    goto w2c_B2;
+    w2c_B9:;
+    w2c_j0 = w2c_l4;
+    w2c_j1 = 208ull;
+    w2c_j0 += w2c_j1;
+    w2c_i0 = (u32)(w2c_j0);
+    w2c_i0 = i32_load8_u(&instance->w2c_memory, (u64)(w2c_i0));
+    w2c_i1 = 1u;
+    w2c_i0 = w2c_i0 == w2c_i1;
+    if (w2c_i0) {
+      w2c_j0 = 18446744073709551609ull;
+      w2c_l5 = w2c_j0;
+      goto w2c_B2;
+    }
+    w2c_j0 = 18446744073709551613ull;
+    w2c_l5 = w2c_j0;
+    w2c_j0 = w2c_l4;
+    w2c_j1 = 49ull;
+    w2c_j0 += w2c_j1;
+    w2c_i0 = (u32)(w2c_j0);
+    w2c_i0 = i32_load8_u(&instance->w2c_memory, (u64)(w2c_i0));
+    if (w2c_i0) {goto w2c_B2;}
+    w2c_j0 = w2c_l4;
+    w2c_j1 = 56ull;
+    w2c_j0 += w2c_j1;
+    w2c_p1 = w2c_j0;
+    w2c_i0 = (u32)(w2c_j0);
+    w2c_i0 = i32_load8_u(&instance->w2c_memory, (u64)(w2c_i0));
+    w2c_i1 = 1u;
+    w2c_i0 = w2c_i0 != w2c_i1;
+    if (w2c_i0) {goto w2c_B2;}
+    w2c_j0 = w2c_p1;
+    w2c_i0 = (u32)(w2c_j0);
+    w2c_i1 = 256u;
+    i32_store16(&instance->w2c_memory, (u64)(w2c_i0), w2c_i1);
+    w2c_j0 = 0ull;
+    w2c_l5 = w2c_j0;
+    goto w2c_B2;
+    w2c_B8:;
+    w2c_j0 = w2c_p2;
+    w2c_i1 = w2c_l10;
+    w2c_j2 = w2c_l7;
+    w2c_j3 = w2c_p3;
+    w2c_j0 = w2c_f73(instance, w2c_j0, w2c_i1, w2c_j2, w2c_j3);
+    w2c_l5 = w2c_j0;
+    goto w2c_B2;
+    w2c_B7:;
+    w2c_j0 = w2c_l4;
+    w2c_j1 = 208ull;
+    w2c_j0 += w2c_j1;
+    w2c_i0 = (u32)(w2c_j0);
+    w2c_i0 = i32_load8_u(&instance->w2c_memory, (u64)(w2c_i0));
+    w2c_i1 = 1u;
+    w2c_i0 = w2c_i0 == w2c_i1;
+    if (w2c_i0) {
+      w2c_j0 = 18446744073709551609ull;
+      w2c_l5 = w2c_j0;
+      goto w2c_B2;
+    }
+    w2c_j0 = w2c_p3;
+    w2c_j1 = 21ull;
+    w2c_i0 = w2c_j0 < w2c_j1;
+    if (w2c_i0) {
+      w2c_j0 = 18446744073709551610ull;
+      w2c_l5 = w2c_j0;
+      goto w2c_B2;
+    }
+    w2c_i0 = w2c_l9;
+    w2c_j1 = w2c_p2;
+    w2c_i1 = (u32)(w2c_j1);
+    w2c_j1 = i64_load(&instance->w2c_memory, (u64)(w2c_i1));
+    w2c_p1 = w2c_j1;
+    w2c_j2 = 24ull;
+    w2c_j1 += w2c_j2;
+    w2c_i1 = (u32)(w2c_j1);
+    w2c_i1 = i32_load(&instance->w2c_memory, (u64)(w2c_i1));
+    w2c_i0 = w2c_i0 >= w2c_i1;
+    if (w2c_i0) {goto w2c_B2;}
+    w2c_j0 = w2c_p1;
+    w2c_j1 = 88ull;
+    w2c_j0 += w2c_j1;
+    w2c_i0 = (u32)(w2c_j0);
+    w2c_j0 = i64_load(&instance->w2c_memory, (u64)(w2c_i0));
+    w2c_i1 = w2c_l9;
+    w2c_j1 = (u64)(w2c_i1);
+    w2c_j2 = 24ull;
+    w2c_j1 *= w2c_j2;
+    w2c_j0 += w2c_j1;
+    w2c_p2 = w2c_j0;
+    w2c_j1 = 8ull;
+    w2c_j0 += w2c_j1;
+    w2c_i0 = (u32)(w2c_j0);
+    w2c_j0 = i64_load(&instance->w2c_memory, (u64)(w2c_i0));
+    w2c_i1 = w2c_l10;
+    w2c_j1 = (u64)(w2c_i1);
+    w2c_p1 = w2c_j1;
+    w2c_i0 = w2c_j0 <= w2c_j1;
+    if (w2c_i0) {goto w2c_B2;}
+    w2c_j0 = w2c_l4;
+    w2c_j1 = 256ull;
+    w2c_j0 += w2c_j1;
+    w2c_i0 = (u32)(w2c_j0);
+    w2c_j0 = i64_load(&instance->w2c_memory, (u64)(w2c_i0));
+    w2c_j1 = w2c_p1;
+    w2c_i0 = w2c_j0 <= w2c_j1;
+    if (w2c_i0) {goto w2c_B2;}
+    w2c_j0 = 18446744073709551613ull;
+    w2c_l5 = w2c_j0;
+    w2c_i0 = w2c_l10;
+    w2c_j1 = w2c_l4;
+    w2c_j2 = 72ull;
+    w2c_j1 += w2c_j2;
+    w2c_i1 = (u32)(w2c_j1);
+    w2c_i1 = i32_load(&instance->w2c_memory, (u64)(w2c_i1));
+    w2c_i0 = w2c_i0 >= w2c_i1;
+    if (w2c_i0) {goto w2c_B2;}
+    w2c_j0 = w2c_l4;
+    w2c_j1 = 49ull;
+    w2c_j0 += w2c_j1;
+    w2c_i0 = (u32)(w2c_j0);
+    w2c_i0 = i32_load8_u(&instance->w2c_memory, (u64)(w2c_i0));
+    w2c_i1 = 1u;
+    w2c_i0 = w2c_i0 != w2c_i1;
+    if (w2c_i0) {goto w2c_B2;}
+    w2c_j0 = w2c_l4;
+    w2c_j1 = 18446744073709551552ull;
+    w2c_j0 -= w2c_j1;
+    w2c_i0 = (u32)(w2c_j0);
+    w2c_j0 = i64_load(&instance->w2c_memory, (u64)(w2c_i0));
+    w2c_j1 = w2c_p1;
+    w2c_j2 = 56ull;
+    w2c_j1 *= w2c_j2;
+    w2c_j0 += w2c_j1;
+    w2c_p3 = w2c_j0;
+    w2c_j1 = 40ull;
+    w2c_j0 += w2c_j1;
+    w2c_i0 = (u32)(w2c_j0);
+    w2c_i0 = i32_load8_u(&instance->w2c_memory, (u64)(w2c_i0));
+    w2c_i1 = 1u;
+    w2c_i0 = w2c_i0 != w2c_i1;
+    if (w2c_i0) {goto w2c_B2;}
+    w2c_j0 = w2c_p3;
+    w2c_j1 = 24ull;
+    w2c_j0 += w2c_j1;
+    w2c_i0 = (u32)(w2c_j0);
+    w2c_i0 = i32_load8_u(&instance->w2c_memory, (u64)(w2c_i0));
+    if (w2c_i0) {goto w2c_B2;}
+    w2c_j0 = w2c_p3;
+    w2c_j1 = 50ull;
+    w2c_j0 += w2c_j1;
+    w2c_i0 = (u32)(w2c_j0);
+    w2c_i0 = i32_load8_u(&instance->w2c_memory, (u64)(w2c_i0));
+    if (w2c_i0) {goto w2c_B2;}
+    w2c_j0 = w2c_p2;
+    w2c_i0 = (u32)(w2c_j0);
+    w2c_j0 = i64_load(&instance->w2c_memory, (u64)(w2c_i0));
+    w2c_j1 = w2c_p1;
+    w2c_j2 = 2ull;
+    w2c_j1 <<= (w2c_j2 & 63);
+    w2c_j0 += w2c_j1;
+    w2c_i0 = (u32)(w2c_j0);
+    w2c_i0 = i32_load(&instance->w2c_memory, (u64)(w2c_i0));
+    w2c_l10 = w2c_i0;
+    w2c_j0 = w2c_l4;
+    w2c_j1 = 104ull;
+    w2c_j0 += w2c_j1;
+    w2c_l5 = w2c_j0;
+    w2c_i0 = (u32)(w2c_j0);
+    w2c_j1 = w2c_l5;
+    w2c_i1 = (u32)(w2c_j1);
+    w2c_j1 = i64_load(&instance->w2c_memory, (u64)(w2c_i1));
+    w2c_j2 = 18446744073709551614ull;
+    w2c_j3 = w2c_p1;
+    w2c_j2 = I64_ROTL(w2c_j2, w2c_j3);
+    w2c_j1 &= w2c_j2;
+    i64_store(&instance->w2c_memory, (u64)(w2c_i0), w2c_j1);
+    w2c_j0 = w2c_p3;
+    w2c_j1 = 40ull;
+    w2c_j0 += w2c_j1;
+    w2c_l5 = w2c_j0;
+    w2c_i0 = (u32)(w2c_j0);
+    w2c_i0 = i32_load8_u(&instance->w2c_memory, (u64)(w2c_i0));
+    w2c_l9 = w2c_i0;
+    w2c_j0 = w2c_l5;
+    w2c_i0 = (u32)(w2c_j0);
+    w2c_j1 = 0ull;
+    i64_store(&instance->w2c_memory, (u64)(w2c_i0), w2c_j1);
+    w2c_i0 = w2c_l9;
+    w2c_i1 = 1u;
+    w2c_i0 = w2c_i0 != w2c_i1;
+    if (w2c_i0) {goto w2c_B0;}
+    w2c_j0 = w2c_l7;
+    w2c_i0 = (u32)(w2c_j0);
+    w2c_i1 = w2c_l10;
+    i32_store(&instance->w2c_memory, (u64)(w2c_i0) + 1, w2c_i1);
+    w2c_j0 = w2c_l7;
+    w2c_i0 = (u32)(w2c_j0);
+    w2c_i1 = 2u;
+    i32_store8(&instance->w2c_memory, (u64)(w2c_i0), w2c_i1);
+    goto w2c_B4;
+    w2c_B6:;
+    w2c_j0 = w2c_l4;
+    w2c_j1 = 208ull;
+    w2c_j0 += w2c_j1;
+    w2c_i0 = (u32)(w2c_j0);
+    w2c_i0 = i32_load8_u(&instance->w2c_memory, (u64)(w2c_i0));
+    w2c_i1 = 1u;
+    w2c_i0 = w2c_i0 == w2c_i1;
+    if (w2c_i0) {
+      w2c_j0 = 18446744073709551609ull;
+      w2c_l5 = w2c_j0;
+      goto w2c_B2;
+    }
+    w2c_j0 = w2c_p3;
+    w2c_j1 = 21ull;
+    w2c_i0 = w2c_j0 < w2c_j1;
+    if (w2c_i0) {
+      w2c_j0 = 18446744073709551610ull;
+      w2c_l5 = w2c_j0;
+      goto w2c_B2;
+    }
+    w2c_i0 = w2c_l9;
+    w2c_j1 = w2c_p2;
+    w2c_i1 = (u32)(w2c_j1);
+    w2c_j1 = i64_load(&instance->w2c_memory, (u64)(w2c_i1));
+    w2c_p1 = w2c_j1;
+    w2c_j2 = 24ull;
+    w2c_j1 += w2c_j2;
+    w2c_i1 = (u32)(w2c_j1);
+    w2c_i1 = i32_load(&instance->w2c_memory, (u64)(w2c_i1));
+    w2c_i0 = w2c_i0 >= w2c_i1;
+    if (w2c_i0) {goto w2c_B2;}
+    w2c_j0 = w2c_p1;
+    w2c_j1 = 88ull;
+    w2c_j0 += w2c_j1;
+    w2c_i0 = (u32)(w2c_j0);
+    w2c_j0 = i64_load(&instance->w2c_memory, (u64)(w2c_i0));
+    w2c_i1 = w2c_l9;
+    w2c_j1 = (u64)(w2c_i1);
+    w2c_j2 = 24ull;
+    w2c_j1 *= w2c_j2;
+    w2c_j0 += w2c_j1;
+    w2c_p2 = w2c_j0;
+    w2c_j1 = 8ull;
+    w2c_j0 += w2c_j1;
+    w2c_i0 = (u32)(w2c_j0);
+    w2c_j0 = i64_load(&instance->w2c_memory, (u64)(w2c_i0));
+    w2c_i1 = w2c_l10;
+    w2c_j1 = (u64)(w2c_i1);
+    w2c_p1 = w2c_j1;
+    w2c_i0 = w2c_j0 <= w2c_j1;
+    if (w2c_i0) {goto w2c_B2;}
+    w2c_j0 = w2c_l4;
+    w2c_j1 = 256ull;
+    w2c_j0 += w2c_j1;
+    w2c_i0 = (u32)(w2c_j0);
+    w2c_j0 = i64_load(&instance->w2c_memory, (u64)(w2c_i0));
+    w2c_j1 = w2c_p1;
+    w2c_i0 = w2c_j0 <= w2c_j1;
+    if (w2c_i0) {goto w2c_B2;}
+    w2c_j0 = 18446744073709551613ull;
+    w2c_l5 = w2c_j0;
+    w2c_i0 = w2c_l10;
+    w2c_j1 = w2c_l4;
+    w2c_j2 = 72ull;
+    w2c_j1 += w2c_j2;
+    w2c_i1 = (u32)(w2c_j1);
+    w2c_i1 = i32_load(&instance->w2c_memory, (u64)(w2c_i1));
+    w2c_i0 = w2c_i0 >= w2c_i1;
+    if (w2c_i0) {goto w2c_B2;}
+    w2c_j0 = w2c_l4;
+    w2c_j1 = 49ull;
+    w2c_j0 += w2c_j1;
+    w2c_i0 = (u32)(w2c_j0);
+    w2c_i0 = i32_load8_u(&instance->w2c_memory, (u64)(w2c_i0));
+    if (w2c_i0) {goto w2c_B2;}
+    w2c_j0 = w2c_p2;
+    w2c_i0 = (u32)(w2c_j0);
+    w2c_j0 = i64_load(&instance->w2c_memory, (u64)(w2c_i0));
+    w2c_j1 = w2c_p1;
+    w2c_j2 = 2ull;
+    w2c_j1 <<= (w2c_j2 & 63);
+    w2c_j0 += w2c_j1;
+    w2c_i0 = (u32)(w2c_j0);
+    w2c_i0 = i32_load(&instance->w2c_memory, (u64)(w2c_i0));
+    w2c_l9 = w2c_i0;
+    w2c_j0 = w2c_l4;
+    w2c_j1 = 18446744073709551552ull;
+    w2c_j0 -= w2c_j1;
+    w2c_i0 = (u32)(w2c_j0);
+    w2c_j0 = i64_load(&instance->w2c_memory, (u64)(w2c_i0));
+    w2c_p2 = w2c_j0;
+    w2c_j0 = w2c_l4;
+    w2c_j1 = 52ull;
+    w2c_j0 += w2c_j1;
+    w2c_i0 = (u32)(w2c_j0);
+    w2c_i0 = i32_load(&instance->w2c_memory, (u64)(w2c_i0));
+    w2c_j1 = w2c_l4;
+    w2c_j2 = 20ull;
+    w2c_j1 += w2c_j2;
+    w2c_i1 = (u32)(w2c_j1);
+    w2c_i1 = i32_load(&instance->w2c_memory, (u64)(w2c_i1));
+    w2c_i0 = w2c_i0 != w2c_i1;
+    if (w2c_i0) {
+      w2c_j0 = w2c_l4;
+      w2c_j1 = 57ull;
+      w2c_j0 += w2c_j1;
+      w2c_i0 = (u32)(w2c_j0);
+      w2c_i0 = i32_load8_u(&instance->w2c_memory, (u64)(w2c_i0));
+      w2c_i1 = 1u;
+      w2c_i0 = w2c_i0 != w2c_i1;
+      if (w2c_i0) {goto w2c_B2;}
+    }
+    w2c_j0 = w2c_p2;
+    w2c_j1 = w2c_p1;
+    w2c_j2 = 56ull;
+    w2c_j1 *= w2c_j2;
+    w2c_j0 += w2c_j1;
+    w2c_p2 = w2c_j0;
+    w2c_j1 = 48ull;
+    w2c_j0 += w2c_j1;
+    w2c_i0 = (u32)(w2c_j0);
+    w2c_i0 = i32_load8_u(&instance->w2c_memory, (u64)(w2c_i0));
+    if (w2c_i0) {goto w2c_B2;}
+    w2c_j0 = w2c_p2;
+    w2c_j1 = 50ull;
+    w2c_j0 += w2c_j1;
+    w2c_i0 = (u32)(w2c_j0);
+    w2c_i0 = i32_load8_u(&instance->w2c_memory, (u64)(w2c_i0));
+    if (w2c_i0) {goto w2c_B2;}
+    w2c_j0 = w2c_p2;
+    w2c_j1 = 48ull;
+    w2c_j0 += w2c_j1;
+    w2c_i0 = (u32)(w2c_j0);
+    w2c_i1 = 1u;
+    i32_store8(&instance->w2c_memory, (u64)(w2c_i0), w2c_i1);
+    w2c_j0 = w2c_l4;
+    w2c_j1 = 120ull;
+    w2c_j0 += w2c_j1;
+    w2c_l5 = w2c_j0;
+    w2c_i0 = (u32)(w2c_j0);
+    w2c_j1 = w2c_l5;
+    w2c_i1 = (u32)(w2c_j1);
+    w2c_j1 = i64_load(&instance->w2c_memory, (u64)(w2c_i1));
+    w2c_j2 = 1ull;
+    w2c_j3 = w2c_p1;
+    w2c_j2 <<= (w2c_j3 & 63);
+    w2c_j1 |= w2c_j2;
+    i64_store(&instance->w2c_memory, (u64)(w2c_i0), w2c_j1);
+    w2c_j0 = w2c_l7;
+    w2c_i0 = (u32)(w2c_j0);
+    w2c_i1 = w2c_l9;
+    i32_store(&instance->w2c_memory, (u64)(w2c_i0) + 1, w2c_i1);
+    w2c_j0 = w2c_l7;
+    w2c_i0 = (u32)(w2c_j0);
+    w2c_i1 = 3u;
+    i32_store8(&instance->w2c_memory, (u64)(w2c_i0), w2c_i1);
+    goto w2c_B4;
+    w2c_B5:;
+    w2c_j0 = w2c_l4;
+    w2c_j1 = 208ull;
+    w2c_j0 += w2c_j1;
+    w2c_i0 = (u32)(w2c_j0);
+    w2c_i0 = i32_load8_u(&instance->w2c_memory, (u64)(w2c_i0));
+    w2c_i1 = 1u;
+    w2c_i0 = w2c_i0 == w2c_i1;
+    if (w2c_i0) {
+      w2c_j0 = 18446744073709551609ull;
+      w2c_l5 = w2c_j0;
+      goto w2c_B2;
+    }
+    w2c_j0 = w2c_p3;
+    w2c_j1 = 21ull;
+    w2c_i0 = w2c_j0 < w2c_j1;
+    if (w2c_i0) {
+      w2c_j0 = 18446744073709551610ull;
+      w2c_l5 = w2c_j0;
+      goto w2c_B2;
+    }
+    w2c_i0 = w2c_l9;
+    w2c_j1 = w2c_p2;
+    w2c_i1 = (u32)(w2c_j1);
+    w2c_j1 = i64_load(&instance->w2c_memory, (u64)(w2c_i1));
+    w2c_p1 = w2c_j1;
+    w2c_j2 = 24ull;
+    w2c_j1 += w2c_j2;
+    w2c_i1 = (u32)(w2c_j1);
+    w2c_i1 = i32_load(&instance->w2c_memory, (u64)(w2c_i1));
+    w2c_i0 = w2c_i0 >= w2c_i1;
+    if (w2c_i0) {goto w2c_B2;}
+    w2c_j0 = w2c_p1;
+    w2c_j1 = 88ull;
+    w2c_j0 += w2c_j1;
+    w2c_i0 = (u32)(w2c_j0);
+    w2c_j0 = i64_load(&instance->w2c_memory, (u64)(w2c_i0));
+    w2c_i1 = w2c_l9;
+    w2c_j1 = (u64)(w2c_i1);
+    w2c_j2 = 24ull;
+    w2c_j1 *= w2c_j2;
+    w2c_j0 += w2c_j1;
+    w2c_p2 = w2c_j0;
+    w2c_j1 = 8ull;
+    w2c_j0 += w2c_j1;
+    w2c_i0 = (u32)(w2c_j0);
+    w2c_j0 = i64_load(&instance->w2c_memory, (u64)(w2c_i0));
+    w2c_i1 = w2c_l10;
+    w2c_j1 = (u64)(w2c_i1);
+    w2c_p1 = w2c_j1;
+    w2c_i0 = w2c_j0 <= w2c_j1;
+    if (w2c_i0) {goto w2c_B2;}
+    w2c_j0 = w2c_l4;
+    w2c_j1 = 256ull;
+    w2c_j0 += w2c_j1;
+    w2c_i0 = (u32)(w2c_j0);
+    w2c_j0 = i64_load(&instance->w2c_memory, (u64)(w2c_i0));
+    w2c_j1 = w2c_p1;
+    w2c_i0 = w2c_j0 <= w2c_j1;
+    if (w2c_i0) {goto w2c_B2;}
+    w2c_j0 = 18446744073709551613ull;
+    w2c_l5 = w2c_j0;
+    w2c_i0 = w2c_l10;
+    w2c_j1 = w2c_l4;
+    w2c_j2 = 72ull;
+    w2c_j1 += w2c_j2;
+    w2c_i1 = (u32)(w2c_j1);
+    w2c_i1 = i32_load(&instance->w2c_memory, (u64)(w2c_i1));
+    w2c_i0 = w2c_i0 >= w2c_i1;
+    if (w2c_i0) {goto w2c_B2;}
+    w2c_j0 = w2c_l4;
+    w2c_j1 = 18446744073709551552ull;
+    w2c_j0 -= w2c_j1;
+    w2c_i0 = (u32)(w2c_j0);
+    w2c_j0 = i64_load(&instance->w2c_memory, (u64)(w2c_i0));
+    w2c_j1 = w2c_p1;
+    w2c_j2 = 56ull;
+    w2c_j1 *= w2c_j2;
+    w2c_j0 += w2c_j1;
+    w2c_p3 = w2c_j0;
+    w2c_j1 = 48ull;
+    w2c_j0 += w2c_j1;
+    w2c_i0 = (u32)(w2c_j0);
+    w2c_i0 = i32_load8_u(&instance->w2c_memory, (u64)(w2c_i0));
+    w2c_i1 = 1u;
+    w2c_i0 = w2c_i0 != w2c_i1;
+    if (w2c_i0) {goto w2c_B2;}
+    w2c_j0 = w2c_p3;
+    w2c_j1 = 49ull;
+    w2c_j0 += w2c_j1;
+    w2c_i0 = (u32)(w2c_j0);
+    w2c_i0 = i32_load8_u(&instance->w2c_memory, (u64)(w2c_i0));
+    w2c_i1 = 1u;
+    w2c_i0 = w2c_i0 != w2c_i1;
+    if (w2c_i0) {goto w2c_B2;}
+    w2c_j0 = w2c_p3;
+    w2c_j1 = 50ull;
+    w2c_j0 += w2c_j1;
+    w2c_p3 = w2c_j0;
+    w2c_i0 = (u32)(w2c_j0);
+    w2c_i0 = i32_load8_u(&instance->w2c_memory, (u64)(w2c_i0));
+    if (w2c_i0) {goto w2c_B2;}
+    w2c_j0 = w2c_p2;
+    w2c_i0 = (u32)(w2c_j0);
+    w2c_j0 = i64_load(&instance->w2c_memory, (u64)(w2c_i0));
+    w2c_j1 = w2c_p1;
+    w2c_j2 = 2ull;
+    w2c_j1 <<= (w2c_j2 & 63);
+    w2c_j0 += w2c_j1;
+    w2c_i0 = (u32)(w2c_j0);
+    w2c_i0 = i32_load(&instance->w2c_memory, (u64)(w2c_i0));
+    w2c_l9 = w2c_i0;
+    w2c_j0 = w2c_p3;
+    w2c_i0 = (u32)(w2c_j0);
+    w2c_i1 = 1u;
+    i32_store8(&instance->w2c_memory, (u64)(w2c_i0), w2c_i1);
+    w2c_j0 = w2c_l4;
+    w2c_j1 = 112ull;
+    w2c_j0 += w2c_j1;
+    w2c_l5 = w2c_j0;
+    w2c_i0 = (u32)(w2c_j0);
+    w2c_j1 = w2c_l5;
+    w2c_i1 = (u32)(w2c_j1);
+    w2c_j1 = i64_load(&instance->w2c_memory, (u64)(w2c_i1));
+    w2c_j2 = 18446744073709551614ull;
+    w2c_j3 = w2c_p1;
+    w2c_j2 = I64_ROTL(w2c_j2, w2c_j3);
+    w2c_j1 &= w2c_j2;
+    i64_store(&instance->w2c_memory, (u64)(w2c_i0), w2c_j1);
+    w2c_j0 = w2c_l7;
+    w2c_i0 = (u32)(w2c_j0);
+    w2c_i1 = w2c_l9;
+    i32_store(&instance->w2c_memory, (u64)(w2c_i0) + 1, w2c_i1);
+    w2c_j0 = w2c_l7;
+    w2c_i0 = (u32)(w2c_j0);
+    w2c_i1 = 4u;
+    i32_store8(&instance->w2c_memory, (u64)(w2c_i0), w2c_i1);
+    w2c_B4:;
+    w2c_j0 = 5ull;
+    w2c_l5 = w2c_j0;
+    w2c_B2:;
+    w2c_j0 = w2c_p0;
+    w2c_i0 = (u32)(w2c_j0);
+    w2c_j1 = 1701734756ull;
+    i64_store(&instance->w2c_memory, (u64)(w2c_i0) + 8, w2c_j1);
+    w2c_j0 = w2c_p0;
+    w2c_i0 = (u32)(w2c_j0);
+    w2c_j1 = w2c_l4;
+    i64_store(&instance->w2c_memory, (u64)(w2c_i0), w2c_j1);
+  }
+  w2c_j0 = w2c_l6;
+  w2c_j1 = 32ull;
+  w2c_j0 += w2c_j1;
+  instance->w2c_g0 = w2c_j0;
+  w2c_j0 = w2c_l5;
+  goto w2c_Bfunc;
+  w2c_B0:;
+  UNREACHABLE;
+  w2c_Bfunc:;
+  FUNC_EPILOGUE;
+  return w2c_j0;
+}
+
 static u64 w2c_dine_raw_site_ask(Z_dine_ffi_instance_t* instance, u64 w2c_p0, u32 w2c_p1, u64 w2c_p2, u64 w2c_p3) {
   u32 w2c_l8 = 0;
   u64 w2c_l4 = 0, w2c_l5 = 0, w2c_l6 = 0, w2c_l7 = 0;
@@ -78155,15 +79409,15 @@ static u64 w2c_dine_raw_site_end(Z_dine_ffi_instance_t* instance, u64 w2c_p0, u3
 }
 
 static u64 w2c_dine_raw_site_give(Z_dine_ffi_instance_t* instance, u64 w2c_p0, u32 w2c_p1, u64 w2c_p2, u64 w2c_p3) {
-  u32 w2c_l12 = 0, w2c_l13 = 0;
-  u64 w2c_l4 = 0, w2c_l5 = 0, w2c_l6 = 0, w2c_l7 = 0, w2c_l8 = 0, w2c_l9 = 0, w2c_l10 = 0, w2c_l11 = 0;
+  u32 w2c_l6 = 0;
+  u64 w2c_l4 = 0, w2c_l5 = 0;
   FUNC_PROLOGUE;
-  u32 w2c_i0, w2c_i1, w2c_i2, w2c_i3, w2c_i4, w2c_i5;
-  u64 w2c_j0, w2c_j1, w2c_j2, w2c_j3, w2c_j4, w2c_j5, w2c_j6;
+  u32 w2c_i0, w2c_i1, w2c_i5;
+  u64 w2c_j0, w2c_j1, w2c_j2, w2c_j3, w2c_j4, w2c_j5;
   w2c_j0 = w2c_p0;
   w2c_i0 = (u32)(w2c_j0);
   w2c_j0 = i64_load(&instance->w2c_memory, (u64)(w2c_i0));
-  w2c_l8 = w2c_j0;
+  w2c_l5 = w2c_j0;
   w2c_j0 = w2c_p0;
   w2c_i0 = (u32)(w2c_j0);
   w2c_j1 = 0ull;
@@ -78171,410 +79425,38 @@ static u64 w2c_dine_raw_site_give(Z_dine_ffi_instance_t* instance, u64 w2c_p0, u
   w2c_j0 = w2c_p0;
   w2c_i0 = (u32)(w2c_j0);
   w2c_i0 = i32_load(&instance->w2c_memory, (u64)(w2c_i0) + 8u);
-  w2c_l12 = w2c_i0;
+  w2c_l6 = w2c_i0;
   w2c_j0 = w2c_p0;
   w2c_i0 = (u32)(w2c_j0);
   w2c_j1 = 0ull;
   i64_store(&instance->w2c_memory, (u64)(w2c_i0) + 8, w2c_j1);
   w2c_j0 = 18446744073709551615ull;
   w2c_l4 = w2c_j0;
-  w2c_i0 = w2c_l12;
+  w2c_i0 = w2c_l6;
   w2c_i1 = 1701734756u;
   w2c_i0 = w2c_i0 == w2c_i1;
   if (w2c_i0) {
     w2c_j0 = 18446744073709551614ull;
     w2c_l4 = w2c_j0;
-    w2c_j0 = w2c_l8;
+    w2c_j0 = w2c_l5;
     w2c_i0 = (u32)(w2c_j0);
     w2c_i0 = i32_load8_u(&instance->w2c_memory, (u64)(w2c_i0));
     w2c_i1 = 2u;
     w2c_i0 = w2c_i0 == w2c_i1;
     if (w2c_i0) {
-      w2c_j0 = w2c_p2;
-      w2c_j1 = 4096ull;
-      w2c_j2 = 0ull;
-      w2c_j3 = w2c_p2;
-      w2c_i3 = !(w2c_j3);
-      w2c_j1 = w2c_i3 ? w2c_j1 : w2c_j2;
-      w2c_j0 += w2c_j1;
-      w2c_l6 = w2c_j0;
-      w2c_j0 = w2c_l8;
-      w2c_j1 = 8ull;
-      w2c_j0 += w2c_j1;
-      w2c_p2 = w2c_j0;
-      w2c_j1 = 200ull;
-      w2c_j0 += w2c_j1;
-      w2c_i0 = (u32)(w2c_j0);
-      w2c_i0 = i32_load8_u(&instance->w2c_memory, (u64)(w2c_i0));
-      w2c_i1 = 1u;
-      w2c_i0 = w2c_i0 == w2c_i1;
-      if (w2c_i0) {
-        w2c_j0 = 18446744073709551609ull;
-        w2c_p3 = w2c_j0;
-        goto w2c_B3;
-      }
-      w2c_j0 = 18446744073709551610ull;
-      w2c_j1 = w2c_p3;
-      w2c_j2 = 21ull;
-      w2c_i1 = w2c_j1 < w2c_j2;
-      if (w2c_i1) {goto w2c_B2;}
-      w2c_j0 = 18446744073709551612ull;
-      w2c_p3 = w2c_j0;
-      w2c_j0 = w2c_p2;
-      w2c_j1 = 8ull;
-      w2c_j0 += w2c_j1;
-      w2c_i0 = (u32)(w2c_j0);
-      w2c_i0 = i32_load(&instance->w2c_memory, (u64)(w2c_i0));
-      w2c_l13 = w2c_i0;
-      w2c_j1 = w2c_p2;
-      w2c_i1 = (u32)(w2c_j1);
-      w2c_j1 = i64_load(&instance->w2c_memory, (u64)(w2c_i1));
-      w2c_l5 = w2c_j1;
-      w2c_j2 = 24ull;
-      w2c_j1 += w2c_j2;
-      w2c_i1 = (u32)(w2c_j1);
-      w2c_i1 = i32_load(&instance->w2c_memory, (u64)(w2c_i1));
-      w2c_i0 = w2c_i0 >= w2c_i1;
-      if (w2c_i0) {goto w2c_B3;}
       w2c_j0 = w2c_l5;
-      w2c_j1 = 88ull;
-      w2c_j0 += w2c_j1;
-      w2c_i0 = (u32)(w2c_j0);
-      w2c_j0 = i64_load(&instance->w2c_memory, (u64)(w2c_i0));
-      w2c_i1 = w2c_l13;
-      w2c_j1 = (u64)(w2c_i1);
-      w2c_j2 = 24ull;
-      w2c_j1 *= w2c_j2;
-      w2c_j0 += w2c_j1;
-      w2c_l4 = w2c_j0;
       w2c_j1 = 8ull;
       w2c_j0 += w2c_j1;
-      w2c_i0 = (u32)(w2c_j0);
-      w2c_j0 = i64_load(&instance->w2c_memory, (u64)(w2c_i0));
       w2c_i1 = w2c_p1;
-      w2c_j1 = (u64)(w2c_i1);
-      w2c_l5 = w2c_j1;
-      w2c_i0 = w2c_j0 <= w2c_j1;
-      if (w2c_i0) {goto w2c_B3;}
-      w2c_j0 = w2c_p2;
-      w2c_j1 = 248ull;
-      w2c_j0 += w2c_j1;
-      w2c_i0 = (u32)(w2c_j0);
-      w2c_j0 = i64_load(&instance->w2c_memory, (u64)(w2c_i0));
-      w2c_j1 = w2c_l5;
-      w2c_i0 = w2c_j0 <= w2c_j1;
-      if (w2c_i0) {goto w2c_B3;}
-      w2c_j0 = 18446744073709551613ull;
-      w2c_p3 = w2c_j0;
-      w2c_i0 = w2c_p1;
-      w2c_j1 = w2c_p2;
-      w2c_j2 = 18446744073709551552ull;
-      w2c_j1 -= w2c_j2;
-      w2c_i1 = (u32)(w2c_j1);
-      w2c_i1 = i32_load(&instance->w2c_memory, (u64)(w2c_i1));
-      w2c_i0 = w2c_i0 >= w2c_i1;
-      if (w2c_i0) {goto w2c_B3;}
-      w2c_j0 = w2c_l4;
-      w2c_i0 = (u32)(w2c_j0);
-      w2c_j0 = i64_load(&instance->w2c_memory, (u64)(w2c_i0));
-      w2c_j1 = w2c_l5;
-      w2c_j2 = 2ull;
-      w2c_j1 <<= (w2c_j2 & 63);
-      w2c_j0 += w2c_j1;
-      w2c_i0 = (u32)(w2c_j0);
-      w2c_i0 = i32_load(&instance->w2c_memory, (u64)(w2c_i0));
-      w2c_p1 = w2c_i0;
-      w2c_j0 = w2c_p2;
-      w2c_j1 = 41ull;
-      w2c_j0 += w2c_j1;
-      w2c_i0 = (u32)(w2c_j0);
-      w2c_i0 = i32_load8_u(&instance->w2c_memory, (u64)(w2c_i0));
-      w2c_i1 = 2u;
-      w2c_i0 = w2c_i0 == w2c_i1;
-      if (w2c_i0) {goto w2c_B3;}
-      w2c_j0 = w2c_p2;
-      w2c_j1 = 56ull;
-      w2c_j0 += w2c_j1;
-      w2c_i0 = (u32)(w2c_j0);
-      w2c_j0 = i64_load(&instance->w2c_memory, (u64)(w2c_i0));
-      w2c_j1 = w2c_l5;
-      w2c_j2 = 56ull;
-      w2c_j1 *= w2c_j2;
-      w2c_j0 += w2c_j1;
-      w2c_l4 = w2c_j0;
-      w2c_j1 = 24ull;
-      w2c_j0 += w2c_j1;
-      w2c_l7 = w2c_j0;
-      w2c_i0 = (u32)(w2c_j0);
-      w2c_i0 = i32_load8_u(&instance->w2c_memory, (u64)(w2c_i0));
-      w2c_i1 = 1u;
-      w2c_i0 = w2c_i0 != w2c_i1;
-      if (w2c_i0) {goto w2c_B3;}
-      w2c_j0 = w2c_l4;
-      w2c_j1 = 32ull;
-      w2c_j0 += w2c_j1;
-      w2c_i0 = (u32)(w2c_j0);
-      w2c_j0 = i64_load(&instance->w2c_memory, (u64)(w2c_i0));
-      w2c_j1 = 24ull;
-      w2c_j0 += w2c_j1;
-      w2c_i0 = (u32)(w2c_j0);
-      w2c_i0 = i32_load8_u(&instance->w2c_memory, (u64)(w2c_i0));
-      w2c_i1 = 1u;
-      w2c_i0 = w2c_i0 != w2c_i1;
-      if (w2c_i0) {goto w2c_B3;}
-      w2c_j0 = w2c_l4;
-      w2c_j1 = 40ull;
-      w2c_j0 += w2c_j1;
-      w2c_i0 = (u32)(w2c_j0);
-      w2c_i0 = i32_load8_u(&instance->w2c_memory, (u64)(w2c_i0));
-      w2c_i1 = 1u;
-      w2c_i0 = w2c_i0 != w2c_i1;
-      if (w2c_i0) {goto w2c_B3;}
-      w2c_j0 = w2c_l4;
-      w2c_j1 = 50ull;
-      w2c_j0 += w2c_j1;
-      w2c_i0 = (u32)(w2c_j0);
-      w2c_i0 = i32_load8_u(&instance->w2c_memory, (u64)(w2c_i0));
-      if (w2c_i0) {goto w2c_B3;}
-      w2c_j0 = w2c_p2;
-      w2c_j1 = 80ull;
-      w2c_j0 += w2c_j1;
-      w2c_p3 = w2c_j0;
-      w2c_i0 = (u32)(w2c_j0);
-      w2c_j1 = w2c_p3;
-      w2c_i1 = (u32)(w2c_j1);
-      w2c_j1 = i64_load(&instance->w2c_memory, (u64)(w2c_i1));
-      w2c_j2 = 1ull;
-      w2c_j3 = w2c_l5;
-      w2c_j2 <<= (w2c_j3 & 63);
-      w2c_j1 |= w2c_j2;
-      i64_store(&instance->w2c_memory, (u64)(w2c_i0), w2c_j1);
-      w2c_j0 = w2c_p2;
-      w2c_j1 = 88ull;
-      w2c_j0 += w2c_j1;
-      w2c_p3 = w2c_j0;
-      w2c_i0 = (u32)(w2c_j0);
-      w2c_j1 = w2c_p3;
-      w2c_i1 = (u32)(w2c_j1);
-      w2c_j1 = i64_load(&instance->w2c_memory, (u64)(w2c_i1));
-      w2c_j2 = 18446744073709551614ull;
-      w2c_j3 = w2c_l5;
-      w2c_j2 = I64_ROTL(w2c_j2, w2c_j3);
-      w2c_j1 &= w2c_j2;
-      i64_store(&instance->w2c_memory, (u64)(w2c_i0), w2c_j1);
-      w2c_i0 = w2c_l13;
-      w2c_j1 = w2c_l4;
-      w2c_j2 = 4ull;
-      w2c_j1 += w2c_j2;
-      w2c_i1 = (u32)(w2c_j1);
-      w2c_i1 = i32_load(&instance->w2c_memory, (u64)(w2c_i1));
-      w2c_l12 = w2c_i1;
-      w2c_i0 = w2c_i0 == w2c_i1;
-      if (w2c_i0) {
-        w2c_j0 = w2c_l4;
-        w2c_j1 = 8ull;
-        w2c_j0 += w2c_j1;
-        w2c_i0 = (u32)(w2c_j0);
-        w2c_i0 = i32_load(&instance->w2c_memory, (u64)(w2c_i0));
-        w2c_l12 = w2c_i0;
-      }
-      w2c_j0 = w2c_l4;
-      w2c_j1 = 24ull;
-      w2c_j0 += w2c_j1;
-      w2c_i0 = (u32)(w2c_j0);
-      w2c_i0 = i32_load8_u(&instance->w2c_memory, (u64)(w2c_i0));
-      w2c_l13 = w2c_i0;
-      w2c_j0 = w2c_l7;
-      w2c_i0 = (u32)(w2c_j0);
-      w2c_j1 = 0ull;
-      i64_store(&instance->w2c_memory, (u64)(w2c_i0), w2c_j1);
-      w2c_j0 = w2c_l4;
-      w2c_j1 = 32ull;
-      w2c_j0 += w2c_j1;
-      w2c_i0 = (u32)(w2c_j0);
-      w2c_j0 = i64_load(&instance->w2c_memory, (u64)(w2c_i0));
-      w2c_p3 = w2c_j0;
-      w2c_j0 = w2c_l7;
-      w2c_i0 = (u32)(w2c_j0);
-      w2c_j1 = 0ull;
-      i64_store(&instance->w2c_memory, (u64)(w2c_i0) + 8, w2c_j1);
-      w2c_i0 = w2c_l13;
-      w2c_i1 = 1u;
-      w2c_i0 = w2c_i0 == w2c_i1;
-      if (w2c_i0) {
-        w2c_j0 = w2c_p3;
-        w2c_j1 = 24ull;
-        w2c_j0 += w2c_j1;
-        w2c_i0 = (u32)(w2c_j0);
-        w2c_i1 = 0u;
-        i32_store8(&instance->w2c_memory, (u64)(w2c_i0), w2c_i1);
-        w2c_j0 = w2c_p3;
-        w2c_j1 = 20ull;
-        w2c_j0 += w2c_j1;
-        w2c_l7 = w2c_j0;
-        w2c_i0 = (u32)(w2c_j0);
-        w2c_i1 = w2c_l12;
-        i32_store(&instance->w2c_memory, (u64)(w2c_i0), w2c_i1);
-        w2c_j0 = w2c_p3;
-        w2c_j1 = 28ull;
-        w2c_j2 = 32ull;
-        w2c_i3 = w2c_l12;
-        w2c_j4 = w2c_p3;
-        w2c_j5 = 4ull;
-        w2c_j4 += w2c_j5;
-        w2c_l9 = w2c_j4;
-        w2c_i4 = (u32)(w2c_j4);
-        w2c_i4 = i32_load(&instance->w2c_memory, (u64)(w2c_i4));
-        w2c_i3 = w2c_i3 == w2c_i4;
-        w2c_j1 = w2c_i3 ? w2c_j1 : w2c_j2;
-        w2c_j0 += w2c_j1;
-        w2c_i0 = (u32)(w2c_j0);
-        w2c_i0 = i32_load(&instance->w2c_memory, (u64)(w2c_i0));
-        w2c_l13 = w2c_i0;
-        w2c_j0 = w2c_p3;
-        w2c_j1 = 48ull;
-        w2c_j0 += w2c_j1;
-        w2c_i0 = (u32)(w2c_j0);
-        w2c_j0 = i64_load(&instance->w2c_memory, (u64)(w2c_i0));
-        w2c_j1 = w2c_p3;
-        w2c_j2 = 56ull;
-        w2c_j1 += w2c_j2;
-        w2c_l10 = w2c_j1;
-        w2c_i1 = (u32)(w2c_j1);
-        w2c_j1 = i64_load(&instance->w2c_memory, (u64)(w2c_i1));
-        w2c_l11 = w2c_j1;
-        w2c_j2 = 12ull;
-        w2c_j1 *= w2c_j2;
-        w2c_j0 += w2c_j1;
-        w2c_l4 = w2c_j0;
-        w2c_i0 = (u32)(w2c_j0);
-        w2c_i1 = 0u;
-        i32_store(&instance->w2c_memory, (u64)(w2c_i0) + 8, w2c_i1);
-        w2c_j0 = w2c_l4;
-        w2c_i0 = (u32)(w2c_j0);
-        w2c_i1 = w2c_l12;
-        i32_store(&instance->w2c_memory, (u64)(w2c_i0), w2c_i1);
-        w2c_j0 = w2c_l4;
-        w2c_i0 = (u32)(w2c_j0);
-        w2c_i1 = w2c_l13;
-        w2c_i2 = 1u;
-        w2c_i1 += w2c_i2;
-        i32_store(&instance->w2c_memory, (u64)(w2c_i0) + 4, w2c_i1);
-        w2c_j0 = w2c_l10;
-        w2c_i0 = (u32)(w2c_j0);
-        w2c_j1 = w2c_l11;
-        w2c_j2 = 1ull;
-        w2c_j1 += w2c_j2;
-        w2c_l4 = w2c_j1;
-        i64_store(&instance->w2c_memory, (u64)(w2c_i0), w2c_j1);
-        w2c_j0 = w2c_p3;
-        w2c_j1 = 28ull;
-        w2c_j2 = 28ull;
-        w2c_j3 = 32ull;
-        w2c_j4 = w2c_l9;
-        w2c_i4 = (u32)(w2c_j4);
-        w2c_i4 = i32_load(&instance->w2c_memory, (u64)(w2c_i4));
-        w2c_l12 = w2c_i4;
-        w2c_j5 = w2c_p3;
-        w2c_j6 = 8ull;
-        w2c_j5 += w2c_j6;
-        w2c_i5 = (u32)(w2c_j5);
-        w2c_i5 = i32_load(&instance->w2c_memory, (u64)(w2c_i5));
-        w2c_i4 = w2c_i4 == w2c_i5;
-        w2c_j2 = w2c_i4 ? w2c_j2 : w2c_j3;
-        w2c_j3 = w2c_l7;
-        w2c_i3 = (u32)(w2c_j3);
-        w2c_i3 = i32_load(&instance->w2c_memory, (u64)(w2c_i3));
-        w2c_i4 = w2c_l12;
-        w2c_i3 = w2c_i3 != w2c_i4;
-        w2c_j1 = w2c_i3 ? w2c_j1 : w2c_j2;
-        w2c_j0 += w2c_j1;
-        w2c_i0 = (u32)(w2c_j0);
-        w2c_i0 = i32_load(&instance->w2c_memory, (u64)(w2c_i0));
-        w2c_l12 = w2c_i0;
-        w2c_j0 = w2c_l6;
-        w2c_i0 = (u32)(w2c_j0);
-        w2c_j1 = w2c_p3;
-        w2c_j2 = 40ull;
-        w2c_j1 += w2c_j2;
-        w2c_i1 = (u32)(w2c_j1);
-        w2c_j1 = i64_load(&instance->w2c_memory, (u64)(w2c_i1));
-        i64_store(&instance->w2c_memory, (u64)(w2c_i0) + 13, w2c_j1);
-        w2c_j0 = w2c_l6;
-        w2c_i0 = (u32)(w2c_j0);
-        w2c_i1 = w2c_l12;
-        i32_store(&instance->w2c_memory, (u64)(w2c_i0) + 9, w2c_i1);
-        w2c_j0 = w2c_l6;
-        w2c_i0 = (u32)(w2c_j0);
-        w2c_j1 = w2c_l4;
-        w2c_i1 = (u32)(w2c_j1);
-        w2c_i2 = 1u;
-        w2c_i1 -= w2c_i2;
-        i32_store(&instance->w2c_memory, (u64)(w2c_i0) + 5, w2c_i1);
-        w2c_j0 = w2c_l6;
-        w2c_i0 = (u32)(w2c_j0);
-        w2c_i1 = w2c_p1;
-        i32_store(&instance->w2c_memory, (u64)(w2c_i0) + 1, w2c_i1);
-        w2c_j0 = w2c_l6;
-        w2c_i0 = (u32)(w2c_j0);
-        w2c_i1 = 1u;
-        i32_store8(&instance->w2c_memory, (u64)(w2c_i0), w2c_i1);
-        w2c_j0 = w2c_p2;
-        w2c_j1 = 240ull;
-        w2c_j0 += w2c_j1;
-        w2c_i0 = (u32)(w2c_j0);
-        w2c_j0 = i64_load(&instance->w2c_memory, (u64)(w2c_i0));
-        w2c_j1 = w2c_l5;
-        w2c_j2 = 4ull;
-        w2c_j1 <<= (w2c_j2 & 63);
-        w2c_j0 += w2c_j1;
-        w2c_p2 = w2c_j0;
-        w2c_i0 = (u32)(w2c_j0);
-        w2c_i0 = i32_load8_u(&instance->w2c_memory, (u64)(w2c_i0));
-        w2c_p1 = w2c_i0;
-        w2c_j0 = w2c_p2;
-        w2c_i0 = (u32)(w2c_j0);
-        w2c_j1 = 1ull;
-        i64_store(&instance->w2c_memory, (u64)(w2c_i0), w2c_j1);
-        w2c_j0 = w2c_p2;
-        w2c_j1 = 8ull;
-        w2c_j0 += w2c_j1;
-        w2c_l6 = w2c_j0;
-        w2c_i0 = (u32)(w2c_j0);
-        w2c_j0 = i64_load(&instance->w2c_memory, (u64)(w2c_i0));
-        w2c_p2 = w2c_j0;
-        w2c_j0 = w2c_l6;
-        w2c_i0 = (u32)(w2c_j0);
-        w2c_j1 = w2c_p3;
-        i64_store(&instance->w2c_memory, (u64)(w2c_i0), w2c_j1);
-        w2c_j0 = 21ull;
-        w2c_p3 = w2c_j0;
-        w2c_i0 = w2c_p1;
-        w2c_i1 = 1u;
-        w2c_i0 = w2c_i0 != w2c_i1;
-        if (w2c_i0) {goto w2c_B3;}
-        w2c_j0 = w2c_p2;
-        w2c_i0 = (u32)(w2c_j0);
-        w2c_j0 = i64_load(&instance->w2c_memory, (u64)(w2c_i0) + 48u);
-        w2c_l5 = w2c_j0;
-        w2c_j0 = w2c_p2;
-        w2c_i0 = (u32)(w2c_j0);
-        w2c_j0 = i64_load(&instance->w2c_memory, (u64)(w2c_i0) + 64u);
-        w2c_l6 = w2c_j0;
-        w2c_j0 = w2c_p2;
-        w2c_leave(instance, w2c_j0);
-        w2c_j0 = w2c_l6;
-        w2c_i0 = !(w2c_j0);
-        if (w2c_i0) {goto w2c_B3;}
-        w2c_j0 = w2c_l5;
-        w2c_leave(instance, w2c_j0);
-        w2c_j0 = 21ull;
-        goto w2c_B2;
-      }
-      UNREACHABLE;
-      w2c_B3:;
-      w2c_j0 = w2c_p3;
-      w2c_B2:;
+      w2c_j2 = w2c_p2;
+      w2c_j3 = 4096ull;
+      w2c_j4 = 0ull;
+      w2c_j5 = w2c_p2;
+      w2c_i5 = !(w2c_j5);
+      w2c_j3 = w2c_i5 ? w2c_j3 : w2c_j4;
+      w2c_j2 += w2c_j3;
+      w2c_j3 = w2c_p3;
+      w2c_j0 = w2c_f73(instance, w2c_j0, w2c_i1, w2c_j2, w2c_j3);
       w2c_l4 = w2c_j0;
     }
     w2c_j0 = w2c_p0;
@@ -78583,7 +79465,7 @@ static u64 w2c_dine_raw_site_give(Z_dine_ffi_instance_t* instance, u64 w2c_p0, u
     i64_store(&instance->w2c_memory, (u64)(w2c_i0) + 8, w2c_j1);
     w2c_j0 = w2c_p0;
     w2c_i0 = (u32)(w2c_j0);
-    w2c_j1 = w2c_l8;
+    w2c_j1 = w2c_l5;
     i64_store(&instance->w2c_memory, (u64)(w2c_i0), w2c_j1);
   }
   w2c_j0 = w2c_l4;
@@ -78743,7 +79625,7 @@ static u64 w2c_dine_raw_site_next(Z_dine_ffi_instance_t* instance, u64 w2c_p0, u
     w2c_j2 = 16ull;
     w2c_j1 += w2c_j2;
     w2c_l6 = w2c_j1;
-    w2c_f73(instance, w2c_j0, w2c_j1);
+    w2c_f74(instance, w2c_j0, w2c_j1);
     w2c_j0 = 0ull;
     w2c_j1 = w2c_l5;
     w2c_i1 = (u32)(w2c_j1);
@@ -79188,7 +80070,7 @@ static u64 w2c_dine_raw_site_open(Z_dine_ffi_instance_t* instance, u64 w2c_p0, u
       w2c_l21 = w2c_j1;
       w2c_j2 = 12ull;
       w2c_j1 *= w2c_j2;
-      w2c_f121(instance, w2c_j0, w2c_j1);
+      w2c_f123(instance, w2c_j0, w2c_j1);
       w2c_j0 = w2c_l3;
       w2c_i0 = (u32)(w2c_j0);
       w2c_i0 = i32_load(&instance->w2c_memory, (u64)(w2c_i0) + 16u);
@@ -79208,7 +80090,7 @@ static u64 w2c_dine_raw_site_open(Z_dine_ffi_instance_t* instance, u64 w2c_p0, u
         i32_store(&instance->w2c_memory, (u64)(w2c_i0), w2c_i1);
         w2c_j0 = w2c_l3;
         w2c_j1 = 72ull;
-        w2c_f121(instance, w2c_j0, w2c_j1);
+        w2c_f123(instance, w2c_j0, w2c_j1);
         w2c_j0 = w2c_l3;
         w2c_i0 = (u32)(w2c_j0);
         w2c_j0 = i64_load(&instance->w2c_memory, (u64)(w2c_i0));
@@ -79403,7 +80285,7 @@ static u64 w2c_dine_raw_site_open(Z_dine_ffi_instance_t* instance, u64 w2c_p0, u
   w2c_j1 += w2c_j2;
   w2c_l4 = w2c_j1;
   w2c_i2 = w2c_p1;
-  w2c_f74(instance, w2c_j0, w2c_j1, w2c_i2);
+  w2c_f75(instance, w2c_j0, w2c_j1, w2c_i2);
   w2c_j0 = w2c_l3;
   w2c_i0 = (u32)(w2c_j0);
   w2c_i0 = i32_load8_u(&instance->w2c_memory, (u64)(w2c_i0) + 816u);
@@ -79425,7 +80307,7 @@ static u64 w2c_dine_raw_site_open(Z_dine_ffi_instance_t* instance, u64 w2c_p0, u
   w2c_j0 += w2c_j1;
   w2c_j1 = w2c_l4;
   w2c_i2 = w2c_p1;
-  w2c_f75(instance, w2c_j0, w2c_j1, w2c_i2);
+  w2c_f76(instance, w2c_j0, w2c_j1, w2c_i2);
   w2c_j0 = w2c_l3;
   w2c_i0 = (u32)(w2c_j0);
   w2c_i0 = i32_load8_u(&instance->w2c_memory, (u64)(w2c_i0) + 784u);
@@ -79453,7 +80335,7 @@ static u64 w2c_dine_raw_site_open(Z_dine_ffi_instance_t* instance, u64 w2c_p0, u
   w2c_j4 = w2c_l3;
   w2c_j5 = 792ull;
   w2c_j4 += w2c_j5;
-  w2c_f76(instance, w2c_j0, w2c_j1, w2c_i2, w2c_j3, w2c_j4);
+  w2c_f77(instance, w2c_j0, w2c_j1, w2c_i2, w2c_j3, w2c_j4);
   w2c_j0 = w2c_l3;
   w2c_i0 = (u32)(w2c_j0);
   w2c_i0 = i32_load8_u(&instance->w2c_memory, (u64)(w2c_i0) + 584u);
@@ -79865,10 +80747,10 @@ static u64 w2c_dine_raw_site_open(Z_dine_ffi_instance_t* instance, u64 w2c_p0, u
 }
 
 static u64 w2c_dine_raw_site_place(Z_dine_ffi_instance_t* instance, u64 w2c_p0, u32 w2c_p1, u64 w2c_p2) {
-  u32 w2c_l7 = 0, w2c_l8 = 0, w2c_l9 = 0;
+  u32 w2c_l7 = 0, w2c_l8 = 0, w2c_l9 = 0, w2c_l10 = 0;
   u64 w2c_l3 = 0, w2c_l4 = 0, w2c_l5 = 0, w2c_l6 = 0;
   FUNC_PROLOGUE;
-  u32 w2c_i0, w2c_i1, w2c_i2;
+  u32 w2c_i0, w2c_i1;
   u64 w2c_j0, w2c_j1, w2c_j2, w2c_j3;
   w2c_j0 = w2c_p0;
   w2c_i0 = (u32)(w2c_j0);
@@ -79887,13 +80769,13 @@ static u64 w2c_dine_raw_site_place(Z_dine_ffi_instance_t* instance, u64 w2c_p0, 
   w2c_j1 = 0ull;
   i64_store(&instance->w2c_memory, (u64)(w2c_i0) + 8, w2c_j1);
   w2c_j0 = 18446744073709551615ull;
-  w2c_l3 = w2c_j0;
+  w2c_l5 = w2c_j0;
   w2c_i0 = w2c_l7;
   w2c_i1 = 1701734756u;
   w2c_i0 = w2c_i0 == w2c_i1;
   if (w2c_i0) {
     w2c_j0 = 18446744073709551614ull;
-    w2c_l3 = w2c_j0;
+    w2c_l5 = w2c_j0;
     w2c_j0 = w2c_l4;
     w2c_i0 = (u32)(w2c_j0);
     w2c_i0 = i32_load8_u(&instance->w2c_memory, (u64)(w2c_i0));
@@ -79901,7 +80783,7 @@ static u64 w2c_dine_raw_site_place(Z_dine_ffi_instance_t* instance, u64 w2c_p0, 
     w2c_i0 = w2c_i0 != w2c_i1;
     if (w2c_i0) {goto w2c_B1;}
     w2c_j0 = 18446744073709551612ull;
-    w2c_l3 = w2c_j0;
+    w2c_l5 = w2c_j0;
     w2c_i0 = w2c_p1;
     w2c_j1 = w2c_l4;
     w2c_j2 = 72ull;
@@ -79921,14 +80803,14 @@ static u64 w2c_dine_raw_site_place(Z_dine_ffi_instance_t* instance, u64 w2c_p0, 
     w2c_j1 += w2c_j2;
     w2c_i1 = (u32)(w2c_j1);
     w2c_j1 = i64_load(&instance->w2c_memory, (u64)(w2c_i1));
-    w2c_l5 = w2c_j1;
+    w2c_l3 = w2c_j1;
     w2c_j2 = 24ull;
     w2c_j1 += w2c_j2;
     w2c_i1 = (u32)(w2c_j1);
     w2c_i1 = i32_load(&instance->w2c_memory, (u64)(w2c_i1));
     w2c_i0 = w2c_i0 >= w2c_i1;
     if (w2c_i0) {goto w2c_B1;}
-    w2c_j0 = w2c_l5;
+    w2c_j0 = w2c_l3;
     w2c_j1 = 88ull;
     w2c_j0 += w2c_j1;
     w2c_i0 = (u32)(w2c_j0);
@@ -79945,26 +80827,24 @@ static u64 w2c_dine_raw_site_place(Z_dine_ffi_instance_t* instance, u64 w2c_p0, 
     w2c_j0 = i64_load(&instance->w2c_memory, (u64)(w2c_i0));
     w2c_i1 = w2c_p1;
     w2c_j1 = (u64)(w2c_i1);
-    w2c_l5 = w2c_j1;
+    w2c_l3 = w2c_j1;
     w2c_i0 = w2c_j0 <= w2c_j1;
     if (w2c_i0) {goto w2c_B1;}
     w2c_j0 = w2c_l6;
     w2c_i0 = (u32)(w2c_j0);
     w2c_j0 = i64_load(&instance->w2c_memory, (u64)(w2c_i0));
-    w2c_j1 = w2c_l5;
+    w2c_j1 = w2c_l3;
     w2c_j2 = 2ull;
     w2c_j1 <<= (w2c_j2 & 63);
     w2c_j0 += w2c_j1;
-    w2c_i0 = (u32)(w2c_j0);
-    w2c_i0 = i32_load(&instance->w2c_memory, (u64)(w2c_i0));
-    w2c_l8 = w2c_i0;
+    w2c_l5 = w2c_j0;
     w2c_i0 = w2c_l7;
     w2c_j1 = w2c_l4;
     w2c_j2 = 18446744073709551552ull;
     w2c_j1 -= w2c_j2;
     w2c_i1 = (u32)(w2c_j1);
     w2c_j1 = i64_load(&instance->w2c_memory, (u64)(w2c_i1));
-    w2c_j2 = w2c_l5;
+    w2c_j2 = w2c_l3;
     w2c_j3 = 56ull;
     w2c_j2 *= w2c_j3;
     w2c_j1 += w2c_j2;
@@ -79983,18 +80863,68 @@ static u64 w2c_dine_raw_site_place(Z_dine_ffi_instance_t* instance, u64 w2c_p0, 
       w2c_i0 = i32_load(&instance->w2c_memory, (u64)(w2c_i0));
       w2c_p1 = w2c_i0;
     }
-    w2c_j0 = w2c_l3;
-    w2c_j1 = 24ull;
-    w2c_j0 += w2c_j1;
+    w2c_j0 = w2c_l5;
     w2c_i0 = (u32)(w2c_j0);
-    w2c_i0 = i32_load8_u(&instance->w2c_memory, (u64)(w2c_i0));
+    w2c_i0 = i32_load(&instance->w2c_memory, (u64)(w2c_i0));
+    w2c_l8 = w2c_i0;
+    w2c_i0 = 1u;
     w2c_l7 = w2c_i0;
     w2c_j0 = w2c_l3;
     w2c_j1 = 40ull;
     w2c_j0 += w2c_j1;
     w2c_i0 = (u32)(w2c_j0);
     w2c_i0 = i32_load8_u(&instance->w2c_memory, (u64)(w2c_i0));
+    w2c_i1 = 1u;
+    w2c_i0 = w2c_i0 == w2c_i1;
     w2c_l9 = w2c_i0;
+    w2c_j0 = 0ull;
+    w2c_l5 = w2c_j0;
+    w2c_j0 = w2c_l3;
+    w2c_j1 = 24ull;
+    w2c_j0 += w2c_j1;
+    w2c_i0 = (u32)(w2c_j0);
+    w2c_j0 = i64_load8_u(&instance->w2c_memory, (u64)(w2c_i0));
+    w2c_l6 = w2c_j0;
+    w2c_j1 = 0ull;
+    w2c_i0 = w2c_j0 != w2c_j1;
+    w2c_l10 = w2c_i0;
+    w2c_j0 = w2c_l6;
+    w2c_i0 = (u32)(w2c_j0);
+    w2c_i1 = 1u;
+    w2c_i0 -= w2c_i1;
+    switch (w2c_i0) {
+      case 0: goto w2c_B5;
+      case 1: goto w2c_B3;
+      default: goto w2c_B4;
+    }
+    w2c_B5:;
+    w2c_j0 = w2c_l3;
+    w2c_j1 = 32ull;
+    w2c_j0 += w2c_j1;
+    w2c_i0 = (u32)(w2c_j0);
+    w2c_j0 = i64_load(&instance->w2c_memory, (u64)(w2c_i0));
+    w2c_j1 = 24ull;
+    w2c_j0 += w2c_j1;
+    w2c_i0 = (u32)(w2c_j0);
+    w2c_i0 = i32_load8_u(&instance->w2c_memory, (u64)(w2c_i0));
+    w2c_l7 = w2c_i0;
+    goto w2c_B3;
+    w2c_B4:;
+    w2c_i0 = 0u;
+    w2c_l7 = w2c_i0;
+    w2c_B3:;
+    w2c_j0 = w2c_p2;
+    w2c_i0 = (u32)(w2c_j0);
+    w2c_i1 = w2c_l7;
+    i32_store(&instance->w2c_memory, (u64)(w2c_i0) + 16, w2c_i1);
+    w2c_j0 = w2c_p2;
+    w2c_i0 = (u32)(w2c_j0);
+    w2c_i1 = w2c_l9;
+    i32_store(&instance->w2c_memory, (u64)(w2c_i0) + 12, w2c_i1);
+    w2c_j0 = w2c_p2;
+    w2c_i0 = (u32)(w2c_j0);
+    w2c_i1 = w2c_l10;
+    i32_store(&instance->w2c_memory, (u64)(w2c_i0) + 8, w2c_i1);
     w2c_j0 = w2c_p2;
     w2c_i0 = (u32)(w2c_j0);
     w2c_i1 = w2c_p1;
@@ -80003,20 +80933,6 @@ static u64 w2c_dine_raw_site_place(Z_dine_ffi_instance_t* instance, u64 w2c_p0, 
     w2c_i0 = (u32)(w2c_j0);
     w2c_i1 = w2c_l8;
     i32_store(&instance->w2c_memory, (u64)(w2c_i0), w2c_i1);
-    w2c_j0 = w2c_p2;
-    w2c_i0 = (u32)(w2c_j0);
-    w2c_i1 = w2c_l9;
-    w2c_i2 = 1u;
-    w2c_i1 = w2c_i1 == w2c_i2;
-    i32_store(&instance->w2c_memory, (u64)(w2c_i0) + 12, w2c_i1);
-    w2c_j0 = w2c_p2;
-    w2c_i0 = (u32)(w2c_j0);
-    w2c_i1 = w2c_l7;
-    w2c_i2 = 0u;
-    w2c_i1 = w2c_i1 != w2c_i2;
-    i32_store(&instance->w2c_memory, (u64)(w2c_i0) + 8, w2c_i1);
-    w2c_j0 = 0ull;
-    w2c_l3 = w2c_j0;
     w2c_B1:;
     w2c_j0 = w2c_p0;
     w2c_i0 = (u32)(w2c_j0);
@@ -80027,7 +80943,7 @@ static u64 w2c_dine_raw_site_place(Z_dine_ffi_instance_t* instance, u64 w2c_p0, 
     w2c_j1 = w2c_l4;
     i64_store(&instance->w2c_memory, (u64)(w2c_i0), w2c_j1);
   }
-  w2c_j0 = w2c_l3;
+  w2c_j0 = w2c_l5;
   FUNC_EPILOGUE;
   return w2c_j0;
 }
@@ -80721,7 +81637,7 @@ static u64 w2c_dine_raw_world_count(Z_dine_ffi_instance_t* instance, u64 w2c_p0)
       if (w2c_i0) {
         w2c_j0 = w2c_l4;
         w2c_i1 = w2c_l8;
-        w2c_i0 = w2c_f78(instance, w2c_j0, w2c_i1);
+        w2c_i0 = w2c_f79(instance, w2c_j0, w2c_i1);
         goto w2c_B3;
       }
       w2c_j0 = w2c_l7;
@@ -80823,7 +81739,7 @@ static u64 w2c_dine_raw_world_enabled(Z_dine_ffi_instance_t* instance, u64 w2c_p
     w2c_j2 = 8ull;
     w2c_j1 += w2c_j2;
     w2c_i2 = w2c_p1;
-    w2c_f79(instance, w2c_j0, w2c_j1, w2c_i2);
+    w2c_f80(instance, w2c_j0, w2c_j1, w2c_i2);
     w2c_j0 = 18446744073709551612ull;
     w2c_j1 = w2c_l5;
     w2c_i1 = (u32)(w2c_j1);
@@ -81054,7 +81970,7 @@ static u64 w2c_dine_raw_world_finish(Z_dine_ffi_instance_t* instance, u64 w2c_p0
           w2c_j3 = 8ull;
           w2c_j2 <<= (w2c_j3 & 63);
           w2c_j1 += w2c_j2;
-          w2c_f73(instance, w2c_j0, w2c_j1);
+          w2c_f74(instance, w2c_j0, w2c_j1);
           w2c_j0 = w2c_l3;
           w2c_i0 = (u32)(w2c_j0);
           w2c_i0 = i32_load8_u(&instance->w2c_memory, (u64)(w2c_i0) + 20u);
@@ -81105,7 +82021,7 @@ static u64 w2c_dine_raw_world_finish(Z_dine_ffi_instance_t* instance, u64 w2c_p0
         w2c_j1 = w2c_l3;
         w2c_j2 = 8ull;
         w2c_j1 += w2c_j2;
-        w2c_f80(instance, w2c_j0, w2c_j1);
+        w2c_f81(instance, w2c_j0, w2c_j1);
         w2c_j0 = w2c_l4;
         w2c_j1 = 1ull;
         w2c_j0 -= w2c_j1;
@@ -81378,7 +82294,7 @@ static u64 w2c_dine_raw_world_open(Z_dine_ffi_instance_t* instance, u64 w2c_p0, 
   w2c_j1 = w2c_l28;
   w2c_j2 = 4ull;
   w2c_j1 <<= (w2c_j2 & 63);
-  w2c_f121(instance, w2c_j0, w2c_j1);
+  w2c_f123(instance, w2c_j0, w2c_j1);
   w2c_j0 = w2c_l2;
   w2c_i0 = (u32)(w2c_j0);
   w2c_j0 = i64_load(&instance->w2c_memory, (u64)(w2c_i0) + 136u);
@@ -81505,7 +82421,7 @@ static u64 w2c_dine_raw_world_open(Z_dine_ffi_instance_t* instance, u64 w2c_p0, 
     w2c_j1 = w2c_l7;
     w2c_j2 = 40ull;
     w2c_j1 *= w2c_j2;
-    w2c_f121(instance, w2c_j0, w2c_j1);
+    w2c_f123(instance, w2c_j0, w2c_j1);
     w2c_j0 = w2c_l2;
     w2c_i0 = (u32)(w2c_j0);
     w2c_j0 = i64_load(&instance->w2c_memory, (u64)(w2c_i0) + 120u);
@@ -81526,7 +82442,7 @@ static u64 w2c_dine_raw_world_open(Z_dine_ffi_instance_t* instance, u64 w2c_p0, 
       w2c_j1 = 104ull;
       w2c_j0 += w2c_j1;
       w2c_j1 = 64ull;
-      w2c_f121(instance, w2c_j0, w2c_j1);
+      w2c_f123(instance, w2c_j0, w2c_j1);
       w2c_j0 = w2c_l2;
       w2c_i0 = (u32)(w2c_j0);
       w2c_j0 = i64_load(&instance->w2c_memory, (u64)(w2c_i0) + 104u);
@@ -81614,7 +82530,7 @@ static u64 w2c_dine_raw_world_open(Z_dine_ffi_instance_t* instance, u64 w2c_p0, 
     w2c_j1 = w2c_l3;
     w2c_j2 = 3ull;
     w2c_j1 <<= (w2c_j2 & 63);
-    w2c_f121(instance, w2c_j0, w2c_j1);
+    w2c_f123(instance, w2c_j0, w2c_j1);
     w2c_j0 = w2c_l2;
     w2c_i0 = (u32)(w2c_j0);
     w2c_j0 = i64_load(&instance->w2c_memory, (u64)(w2c_i0) + 88u);
@@ -81710,7 +82626,7 @@ static u64 w2c_dine_raw_world_open(Z_dine_ffi_instance_t* instance, u64 w2c_p0, 
   w2c_j1 = w2c_l5;
   w2c_j2 = 192ull;
   w2c_j1 *= w2c_j2;
-  w2c_f121(instance, w2c_j0, w2c_j1);
+  w2c_f123(instance, w2c_j0, w2c_j1);
   w2c_j0 = w2c_l2;
   w2c_i0 = (u32)(w2c_j0);
   w2c_j0 = i64_load(&instance->w2c_memory, (u64)(w2c_i0) + 72u);
@@ -81775,7 +82691,7 @@ static u64 w2c_dine_raw_world_open(Z_dine_ffi_instance_t* instance, u64 w2c_p0, 
   w2c_j2 = 3ull;
   w2c_j1 <<= (w2c_j2 & 63);
   w2c_l6 = w2c_j1;
-  w2c_f121(instance, w2c_j0, w2c_j1);
+  w2c_f123(instance, w2c_j0, w2c_j1);
   w2c_j0 = w2c_l2;
   w2c_i0 = (u32)(w2c_j0);
   w2c_j0 = i64_load(&instance->w2c_memory, (u64)(w2c_i0) + 56u);
@@ -81853,7 +82769,7 @@ static u64 w2c_dine_raw_world_open(Z_dine_ffi_instance_t* instance, u64 w2c_p0, 
   w2c_j2 = 2ull;
   w2c_j1 <<= (w2c_j2 & 63);
   w2c_l6 = w2c_j1;
-  w2c_f121(instance, w2c_j0, w2c_j1);
+  w2c_f123(instance, w2c_j0, w2c_j1);
   w2c_j0 = w2c_l2;
   w2c_i0 = (u32)(w2c_j0);
   w2c_j0 = i64_load(&instance->w2c_memory, (u64)(w2c_i0) + 40u);
@@ -81955,7 +82871,7 @@ static u64 w2c_dine_raw_world_open(Z_dine_ffi_instance_t* instance, u64 w2c_p0, 
   w2c_j1 = w2c_l21;
   w2c_j2 = 8ull;
   w2c_j1 <<= (w2c_j2 & 63);
-  w2c_f121(instance, w2c_j0, w2c_j1);
+  w2c_f123(instance, w2c_j0, w2c_j1);
   w2c_j0 = w2c_l2;
   w2c_i0 = (u32)(w2c_j0);
   w2c_j0 = i64_load(&instance->w2c_memory, (u64)(w2c_i0) + 24u);
@@ -82045,7 +82961,7 @@ static u64 w2c_dine_raw_world_open(Z_dine_ffi_instance_t* instance, u64 w2c_p0, 
     w2c_j2 = w2c_l5;
     w2c_i2 = (u32)(w2c_j2);
     w2c_l36 = w2c_i2;
-    w2c_f74(instance, w2c_j0, w2c_j1, w2c_i2);
+    w2c_f75(instance, w2c_j0, w2c_j1, w2c_i2);
     w2c_j0 = w2c_l2;
     w2c_i0 = (u32)(w2c_j0);
     w2c_i0 = i32_load8_u(&instance->w2c_memory, (u64)(w2c_i0) + 1192u);
@@ -82067,7 +82983,7 @@ static u64 w2c_dine_raw_world_open(Z_dine_ffi_instance_t* instance, u64 w2c_p0, 
     w2c_j0 += w2c_j1;
     w2c_j1 = w2c_l26;
     w2c_i2 = w2c_l36;
-    w2c_f75(instance, w2c_j0, w2c_j1, w2c_i2);
+    w2c_f76(instance, w2c_j0, w2c_j1, w2c_i2);
     w2c_j0 = w2c_l2;
     w2c_i0 = (u32)(w2c_j0);
     w2c_i0 = i32_load8_u(&instance->w2c_memory, (u64)(w2c_i0) + 1160u);
@@ -82111,7 +83027,7 @@ static u64 w2c_dine_raw_world_open(Z_dine_ffi_instance_t* instance, u64 w2c_p0, 
       w2c_j1 = 8ull;
       w2c_j0 += w2c_j1;
       w2c_j1 = w2c_l18;
-      w2c_f121(instance, w2c_j0, w2c_j1);
+      w2c_f123(instance, w2c_j0, w2c_j1);
       w2c_j0 = w2c_l2;
       w2c_i0 = (u32)(w2c_j0);
       w2c_j0 = i64_load(&instance->w2c_memory, (u64)(w2c_i0) + 8u);
@@ -82253,7 +83169,7 @@ static u64 w2c_dine_raw_world_open(Z_dine_ffi_instance_t* instance, u64 w2c_p0, 
       w2c_j4 = w2c_l2;
       w2c_j5 = 912ull;
       w2c_j4 += w2c_j5;
-      w2c_f76(instance, w2c_j0, w2c_j1, w2c_i2, w2c_j3, w2c_j4);
+      w2c_f77(instance, w2c_j0, w2c_j1, w2c_i2, w2c_j3, w2c_j4);
       w2c_j0 = w2c_l2;
       w2c_i0 = (u32)(w2c_j0);
       w2c_i0 = i32_load8_u(&instance->w2c_memory, (u64)(w2c_i0) + 960u);
@@ -83395,7 +84311,7 @@ static u64 w2c_dine_raw_world_replay(Z_dine_ffi_instance_t* instance, u64 w2c_p0
           w2c_i1 = (u32)(w2c_j1);
           w2c_j2 = w2c_l7;
           w2c_i3 = w2c_l14;
-          w2c_i2 = w2c_f78(instance, w2c_j2, w2c_i3);
+          w2c_i2 = w2c_f79(instance, w2c_j2, w2c_i3);
           i32_store(&instance->w2c_memory, (u64)(w2c_i1), w2c_i2);
           w2c_j1 = 18446744073709551614ull;
           w2c_j2 = w2c_l4;
@@ -83428,7 +84344,7 @@ static u64 w2c_dine_raw_world_replay(Z_dine_ffi_instance_t* instance, u64 w2c_p0
       w2c_j2 += w2c_j3;
       w2c_i2 = (u32)(w2c_j2);
       w2c_i2 = i32_load(&instance->w2c_memory, (u64)(w2c_i2));
-      w2c_f79(instance, w2c_j0, w2c_j1, w2c_i2);
+      w2c_f80(instance, w2c_j0, w2c_j1, w2c_i2);
       w2c_j0 = w2c_l3;
       w2c_i0 = (u32)(w2c_j0);
       w2c_i0 = i32_load8_u(&instance->w2c_memory, (u64)(w2c_i0));
@@ -83457,7 +84373,7 @@ static u64 w2c_dine_raw_world_replay(Z_dine_ffi_instance_t* instance, u64 w2c_p0
         w2c_j1 = w2c_l3;
         w2c_j2 = 20ull;
         w2c_j1 += w2c_j2;
-        w2c_f80(instance, w2c_j0, w2c_j1);
+        w2c_f81(instance, w2c_j0, w2c_j1);
         w2c_j0 = w2c_l6;
         w2c_j1 = 1ull;
         w2c_j0 += w2c_j1;
@@ -83985,7 +84901,7 @@ static u64 w2c_dine_raw_world_step(Z_dine_ffi_instance_t* instance, u64 w2c_p0, 
     w2c_j1 = w2c_l6;
     w2c_j2 = 4ull;
     w2c_j1 += w2c_j2;
-    w2c_f80(instance, w2c_j0, w2c_j1);
+    w2c_f81(instance, w2c_j0, w2c_j1);
     w2c_j0 = 0ull;
     w2c_l7 = w2c_j0;
     w2c_B1:;
@@ -84147,7 +85063,7 @@ static u64 w2c_dine_raw_world_value(Z_dine_ffi_instance_t* instance, u64 w2c_p0,
     w2c_j2 = 8ull;
     w2c_j1 += w2c_j2;
     w2c_i2 = w2c_p1;
-    w2c_f82(instance, w2c_j0, w2c_j1, w2c_i2);
+    w2c_f83(instance, w2c_j0, w2c_j1, w2c_i2);
     w2c_j0 = 18446744073709551612ull;
     w2c_j1 = w2c_l2;
     w2c_i1 = (u32)(w2c_j1);
@@ -84245,8 +85161,7 @@ static u64 w2c_dine_raw_site_take(Z_dine_ffi_instance_t* instance, u64 w2c_p0, u
     w2c_j0 = 18446744073709551605ull;
     w2c_l5 = w2c_j0;
     w2c_j0 = w2c_p2;
-    w2c_j1 = 5ull;
-    w2c_i0 = w2c_j0 < w2c_j1;
+    w2c_i0 = !(w2c_j0);
     if (w2c_i0) {goto w2c_B1;}
     w2c_j0 = w2c_p1;
     w2c_j1 = 4096ull;
@@ -84257,12 +85172,22 @@ static u64 w2c_dine_raw_site_take(Z_dine_ffi_instance_t* instance, u64 w2c_p0, u
     w2c_j0 += w2c_j1;
     w2c_p1 = w2c_j0;
     w2c_i0 = (u32)(w2c_j0);
-    w2c_i0 = i32_load(&instance->w2c_memory, (u64)(w2c_i0) + 1u);
-    w2c_l15 = w2c_i0;
-    w2c_j0 = w2c_p1;
-    w2c_i0 = (u32)(w2c_j0);
     w2c_i0 = i32_load8_u(&instance->w2c_memory, (u64)(w2c_i0));
     w2c_l16 = w2c_i0;
+    w2c_i1 = 5u;
+    w2c_i0 -= w2c_i1;
+    w2c_i1 = 255u;
+    w2c_i0 &= w2c_i1;
+    w2c_i1 = 252u;
+    w2c_i0 = w2c_i0 < w2c_i1;
+    if (w2c_i0) {
+      w2c_j0 = 18446744073709551604ull;
+      w2c_l5 = w2c_j0;
+      goto w2c_B1;
+    }
+    w2c_i0 = w2c_l16;
+    w2c_i1 = 255u;
+    w2c_i0 &= w2c_i1;
     w2c_i1 = 1u;
     w2c_i0 = w2c_i0 == w2c_i1;
     if (w2c_i0) {
@@ -84283,30 +85208,29 @@ static u64 w2c_dine_raw_site_take(Z_dine_ffi_instance_t* instance, u64 w2c_p0, u
       w2c_j0 = w2c_p1;
       w2c_i0 = (u32)(w2c_j0);
       w2c_i0 = i32_load(&instance->w2c_memory, (u64)(w2c_i0) + 9u);
-      goto w2c_B3;
+      goto w2c_B4;
     }
     w2c_j0 = w2c_p2;
     w2c_j1 = 5ull;
     w2c_i0 = w2c_j0 != w2c_j1;
     if (w2c_i0) {goto w2c_B1;}
-    w2c_i0 = w2c_l16;
+    w2c_i0 = 1u;
     w2c_i1 = 2u;
-    w2c_i0 -= w2c_i1;
-    w2c_i1 = 255u;
-    w2c_i0 &= w2c_i1;
-    w2c_i1 = 2u;
-    w2c_i0 = w2c_i0 > w2c_i1;
-    if (w2c_i0) {
-      w2c_j0 = 18446744073709551604ull;
-      w2c_l5 = w2c_j0;
-      goto w2c_B1;
-    }
-    w2c_i0 = w2c_l16;
-    w2c_i1 = 1u;
-    w2c_i0 -= w2c_i1;
+    w2c_i2 = 3u;
+    w2c_i3 = w2c_l16;
+    w2c_i4 = 255u;
+    w2c_i3 &= w2c_i4;
+    w2c_l16 = w2c_i3;
+    w2c_i4 = 3u;
+    w2c_i3 = w2c_i3 == w2c_i4;
+    w2c_i1 = w2c_i3 ? w2c_i1 : w2c_i2;
+    w2c_i2 = w2c_l16;
+    w2c_i3 = 2u;
+    w2c_i2 = w2c_i2 == w2c_i3;
+    w2c_i0 = w2c_i2 ? w2c_i0 : w2c_i1;
     w2c_l18 = w2c_i0;
     w2c_i0 = 0u;
-    w2c_B3:;
+    w2c_B4:;
     w2c_l19 = w2c_i0;
     w2c_j0 = 18446744073709551602ull;
     w2c_l5 = w2c_j0;
@@ -84348,6 +85272,10 @@ static u64 w2c_dine_raw_site_take(Z_dine_ffi_instance_t* instance, u64 w2c_p0, u
     w2c_l7 = w2c_j0;
     w2c_i0 = !(w2c_j0);
     if (w2c_i0) {goto w2c_B1;}
+    w2c_j0 = w2c_p1;
+    w2c_i0 = (u32)(w2c_j0);
+    w2c_i0 = i32_load(&instance->w2c_memory, (u64)(w2c_i0) + 1u);
+    w2c_l15 = w2c_i0;
     w2c_j0 = w2c_p2;
     w2c_i0 = (u32)(w2c_j0);
     w2c_j0 = i64_load(&instance->w2c_memory, (u64)(w2c_i0));
@@ -84395,10 +85323,6 @@ static u64 w2c_dine_raw_site_take(Z_dine_ffi_instance_t* instance, u64 w2c_p0, u
     w2c_i0 = w2c_j0 > w2c_j1;
     if (w2c_i0) {goto w2c_B1;}
     w2c_i0 = w2c_l18;
-    w2c_j0 = (u64)(w2c_i0);
-    w2c_j1 = 255ull;
-    w2c_j0 &= w2c_j1;
-    w2c_i0 = (u32)(w2c_j0);
     w2c_i1 = 1u;
     w2c_i0 -= w2c_i1;
     switch (w2c_i0) {
@@ -84885,7 +85809,7 @@ static u64 w2c_dine_raw_site_take(Z_dine_ffi_instance_t* instance, u64 w2c_p0, u
     if (w2c_i0) {goto w2c_B18;}
     w2c_j0 = w2c_l3;
     w2c_j1 = 8ull;
-    w2c_f121(instance, w2c_j0, w2c_j1);
+    w2c_f123(instance, w2c_j0, w2c_j1);
     w2c_j0 = w2c_l3;
     w2c_i0 = (u32)(w2c_j0);
     w2c_j0 = i64_load(&instance->w2c_memory, (u64)(w2c_i0));
@@ -85177,7 +86101,7 @@ static u64 w2c_dine_raw_site_take(Z_dine_ffi_instance_t* instance, u64 w2c_p0, u
     w2c_j3 = w2c_l3;
     w2c_j4 = 16ull;
     w2c_j3 += w2c_j4;
-    w2c_f83(instance, w2c_j0, w2c_j1, w2c_i2, w2c_j3);
+    w2c_f84(instance, w2c_j0, w2c_j1, w2c_i2, w2c_j3);
     w2c_j0 = w2c_l3;
     w2c_i0 = (u32)(w2c_j0);
     w2c_i0 = i32_load8_u(&instance->w2c_memory, (u64)(w2c_i0) + 32u);
@@ -85281,7 +86205,7 @@ static u64 w2c_dine_raw_site_take(Z_dine_ffi_instance_t* instance, u64 w2c_p0, u
     w2c_j3 = w2c_l3;
     w2c_j4 = 16ull;
     w2c_j3 += w2c_j4;
-    w2c_f83(instance, w2c_j0, w2c_j1, w2c_i2, w2c_j3);
+    w2c_f84(instance, w2c_j0, w2c_j1, w2c_i2, w2c_j3);
     w2c_j0 = w2c_l3;
     w2c_i0 = (u32)(w2c_j0);
     w2c_i0 = i32_load8_u(&instance->w2c_memory, (u64)(w2c_i0) + 32u);
@@ -85354,7 +86278,7 @@ static u64 w2c_dine_raw_site_take(Z_dine_ffi_instance_t* instance, u64 w2c_p0, u
     w2c_j3 = w2c_l3;
     w2c_j4 = 16ull;
     w2c_j3 += w2c_j4;
-    w2c_f83(instance, w2c_j0, w2c_j1, w2c_i2, w2c_j3);
+    w2c_f84(instance, w2c_j0, w2c_j1, w2c_i2, w2c_j3);
     w2c_j0 = w2c_l3;
     w2c_i0 = (u32)(w2c_j0);
     w2c_i0 = i32_load8_u(&instance->w2c_memory, (u64)(w2c_i0) + 32u);
@@ -85427,7 +86351,7 @@ static u64 w2c_dine_raw_site_take(Z_dine_ffi_instance_t* instance, u64 w2c_p0, u
     w2c_j3 = w2c_l3;
     w2c_j4 = 16ull;
     w2c_j3 += w2c_j4;
-    w2c_f83(instance, w2c_j0, w2c_j1, w2c_i2, w2c_j3);
+    w2c_f84(instance, w2c_j0, w2c_j1, w2c_i2, w2c_j3);
     w2c_j0 = w2c_l3;
     w2c_i0 = (u32)(w2c_j0);
     w2c_i0 = i32_load8_u(&instance->w2c_memory, (u64)(w2c_i0) + 32u);
@@ -85739,7 +86663,7 @@ static u64 w2c_dine_raw_world_fork(Z_dine_ffi_instance_t* instance, u64 w2c_p0, 
     w2c_j2 = 8ull;
     w2c_j1 += w2c_j2;
     w2c_i2 = w2c_p1;
-    w2c_f82(instance, w2c_j0, w2c_j1, w2c_i2);
+    w2c_f83(instance, w2c_j0, w2c_j1, w2c_i2);
     w2c_j0 = w2c_l6;
     w2c_i0 = (u32)(w2c_j0);
     w2c_i0 = i32_load8_u(&instance->w2c_memory, (u64)(w2c_i0));
@@ -86524,7 +87448,7 @@ static u64 w2c_dine_raw_plan_refusal(Z_dine_ffi_instance_t* instance, u64 w2c_p0
       w2c_j0 = w2c_l8;
       w2c_j1 = 1060431ull;
       w2c_j2 = 4ull;
-      w2c_i0 = w2c_f84(instance, w2c_j0, w2c_j1, w2c_j2);
+      w2c_i0 = w2c_f85(instance, w2c_j0, w2c_j1, w2c_j2);
       w2c_i1 = 255u;
       w2c_i0 &= w2c_i1;
       w2c_i0 = !(w2c_i0);
@@ -86558,7 +87482,7 @@ static u64 w2c_dine_raw_plan_refusal(Z_dine_ffi_instance_t* instance, u64 w2c_p0
     w2c_j3 = w2c_l6;
     w2c_j4 = w2c_l11;
     w2c_j3 -= w2c_j4;
-    w2c_i1 = w2c_f84(instance, w2c_j1, w2c_j2, w2c_j3);
+    w2c_i1 = w2c_f85(instance, w2c_j1, w2c_j2, w2c_j3);
     w2c_i2 = 255u;
     w2c_i1 &= w2c_i2;
     if (w2c_i1) {goto w2c_B36;}
@@ -86593,7 +87517,7 @@ static u64 w2c_dine_raw_plan_refusal(Z_dine_ffi_instance_t* instance, u64 w2c_p0
     w2c_j0 = w2c_l8;
     w2c_j1 = 1060431ull;
     w2c_j2 = 4ull;
-    w2c_i0 = w2c_f84(instance, w2c_j0, w2c_j1, w2c_j2);
+    w2c_i0 = w2c_f85(instance, w2c_j0, w2c_j1, w2c_j2);
     w2c_i1 = 255u;
     w2c_i0 &= w2c_i1;
     w2c_i0 = !(w2c_i0);
@@ -86632,7 +87556,7 @@ static u64 w2c_dine_raw_plan_refusal(Z_dine_ffi_instance_t* instance, u64 w2c_p0
   w2c_j5 = w2c_l6;
   w2c_i4 = w2c_j4 < w2c_j5;
   w2c_j2 = w2c_i4 ? w2c_j2 : w2c_j3;
-  w2c_i0 = w2c_f84(instance, w2c_j0, w2c_j1, w2c_j2);
+  w2c_i0 = w2c_f85(instance, w2c_j0, w2c_j1, w2c_j2);
   w2c_i1 = 255u;
   w2c_i0 &= w2c_i1;
   w2c_B36:;
@@ -86949,120 +87873,19 @@ static u64 w2c_dine_raw_plan_refusal(Z_dine_ffi_instance_t* instance, u64 w2c_p0
   return w2c_j0;
 }
 
-static void w2c_f121(Z_dine_ffi_instance_t* instance, u64 w2c_p0, u64 w2c_p1) {
-  u64 w2c_l2 = 0, w2c_l3 = 0, w2c_l4 = 0, w2c_l5 = 0;
+static void w2c_f123(Z_dine_ffi_instance_t* instance, u64 w2c_p0, u64 w2c_p1) {
   FUNC_PROLOGUE;
   u32 w2c_i0, w2c_i1;
   u64 w2c_j0, w2c_j1, w2c_j2;
-  w2c_j0 = w2c_p1;
-  w2c_j1 = 4294901760ull;
-  w2c_i0 = w2c_j0 > w2c_j1;
-  if (w2c_i0) {goto w2c_B0;}
-  w2c_j0 = w2c_p1;
-  w2c_j1 = 16ull;
-  w2c_j0 += w2c_j1;
-  w2c_l3 = w2c_j0;
-  w2c_j0 = 4ull;
-  w2c_p1 = w2c_j0;
-  w2c_j0 = 1060640ull;
-  w2c_l2 = w2c_j0;
-  w2c_L1: 
-    w2c_j0 = w2c_l2;
-    w2c_j1 = 8ull;
-    w2c_j0 += w2c_j1;
-    w2c_l2 = w2c_j0;
-    w2c_j0 = 1ull;
-    w2c_j1 = w2c_p1;
-    w2c_j2 = 1ull;
-    w2c_j1 += w2c_j2;
-    w2c_p1 = w2c_j1;
-    w2c_j0 <<= (w2c_j1 & 63);
-    w2c_l4 = w2c_j0;
-    w2c_j1 = w2c_l3;
-    w2c_i0 = w2c_j0 < w2c_j1;
-    if (w2c_i0) {goto w2c_L1;}
-  w2c_j0 = w2c_l2;
-  w2c_i0 = (u32)(w2c_j0);
-  w2c_j0 = i64_load(&instance->w2c_memory, (u64)(w2c_i0));
-  w2c_l3 = w2c_j0;
-  w2c_i0 = !(w2c_j0);
-  w2c_i0 = !(w2c_i0);
-  if (w2c_i0) {
-    w2c_j0 = w2c_l2;
-    w2c_i0 = (u32)(w2c_j0);
-    w2c_j1 = w2c_l3;
-    w2c_i1 = (u32)(w2c_j1);
-    w2c_j1 = i64_load(&instance->w2c_memory, (u64)(w2c_i1) + 8u);
-    i64_store(&instance->w2c_memory, (u64)(w2c_i0), w2c_j1);
-    w2c_j0 = w2c_l3;
-    w2c_j1 = 16ull;
-    w2c_j0 += w2c_j1;
-    w2c_l2 = w2c_j0;
-    goto w2c_B0;
-  }
-  w2c_j0 = 0ull;
-  w2c_l2 = w2c_j0;
-  w2c_i0 = 1060872u;
-  w2c_j0 = i64_load(&instance->w2c_memory, (u64)(w2c_i0));
-  w2c_l3 = w2c_j0;
-  w2c_i0 = !(w2c_j0);
-  if (w2c_i0) {
-    w2c_i0 = 1060872u;
-    w2c_j1 = 1060880ull;
-    w2c_l3 = w2c_j1;
-    i64_store(&instance->w2c_memory, (u64)(w2c_i0), w2c_j1);
-  }
-  w2c_j0 = w2c_l3;
-  w2c_j1 = w2c_l4;
-  w2c_j0 += w2c_j1;
-  w2c_l4 = w2c_j0;
-  w2c_j1 = 4294901760ull;
-  w2c_i0 = w2c_j0 > w2c_j1;
-  if (w2c_i0) {goto w2c_B0;}
-  w2c_i0 = instance->w2c_memory.pages;
-  w2c_j0 = (u64)(w2c_i0);
-  w2c_j1 = 16ull;
-  w2c_j0 <<= (w2c_j1 & 63);
-  w2c_l5 = w2c_j0;
-  w2c_j1 = w2c_l4;
-  w2c_i0 = w2c_j0 < w2c_j1;
-  if (w2c_i0) {
-    w2c_j0 = w2c_l4;
-    w2c_j1 = w2c_l5;
-    w2c_j0 -= w2c_j1;
-    w2c_j1 = 65535ull;
-    w2c_j0 += w2c_j1;
-    w2c_j1 = 16ull;
-    w2c_j0 >>= (w2c_j1 & 63);
-    w2c_i0 = (u32)(w2c_j0);
-    w2c_i0 = wasm_rt_grow_memory(&instance->w2c_memory, w2c_i0);
-  }
-  w2c_j0 = w2c_l4;
-  w2c_i1 = instance->w2c_memory.pages;
-  w2c_j1 = (u64)(w2c_i1);
-  w2c_j2 = 16ull;
-  w2c_j1 <<= (w2c_j2 & 63);
-  w2c_i0 = w2c_j0 > w2c_j1;
-  if (w2c_i0) {goto w2c_B0;}
-  w2c_i0 = 1060872u;
-  w2c_j1 = w2c_l4;
-  i64_store(&instance->w2c_memory, (u64)(w2c_i0), w2c_j1);
-  w2c_j0 = w2c_l3;
-  w2c_i0 = (u32)(w2c_j0);
-  w2c_j1 = w2c_p1;
-  i64_store(&instance->w2c_memory, (u64)(w2c_i0), w2c_j1);
-  w2c_j0 = w2c_l3;
-  w2c_j1 = 16ull;
-  w2c_j0 += w2c_j1;
-  w2c_l2 = w2c_j0;
-  w2c_B0:;
   w2c_j0 = w2c_p0;
   w2c_i0 = (u32)(w2c_j0);
-  w2c_j1 = w2c_l2;
+  w2c_j1 = w2c_p1;
+  w2c_j1 = w2c_f124(instance, w2c_j1);
+  w2c_p1 = w2c_j1;
   i64_store(&instance->w2c_memory, (u64)(w2c_i0) + 8, w2c_j1);
   w2c_j0 = w2c_p0;
   w2c_i0 = (u32)(w2c_j0);
-  w2c_j1 = w2c_l2;
+  w2c_j1 = w2c_p1;
   w2c_j2 = 0ull;
   w2c_i1 = w2c_j1 != w2c_j2;
   w2c_j1 = (u64)(w2c_i1);
@@ -87070,264 +87893,373 @@ static void w2c_f121(Z_dine_ffi_instance_t* instance, u64 w2c_p0, u64 w2c_p1) {
   FUNC_EPILOGUE;
 }
 
-static void w2c_leave(Z_dine_ffi_instance_t* instance, u64 w2c_p0) {
-  u64 w2c_l1 = 0;
+static u64 w2c_f124(Z_dine_ffi_instance_t* instance, u64 w2c_p0) {
+  u32 w2c_l5 = 0;
+  u64 w2c_l1 = 0, w2c_l2 = 0, w2c_l3 = 0, w2c_l4 = 0;
   FUNC_PROLOGUE;
-  u32 w2c_i0, w2c_i1;
-  u64 w2c_j0, w2c_j1, w2c_j2;
+  u32 w2c_i0, w2c_i1, w2c_i2, w2c_i3;
+  u64 w2c_j0, w2c_j1, w2c_j2, w2c_j3, w2c_j4;
   w2c_j0 = w2c_p0;
-  w2c_j1 = 8ull;
-  w2c_j0 -= w2c_j1;
-  w2c_i0 = (u32)(w2c_j0);
-  w2c_j1 = w2c_p0;
-  w2c_j2 = 16ull;
+  w2c_j1 = 4294901760ull;
+  w2c_i0 = w2c_j0 > w2c_j1;
+  if (w2c_i0) {goto w2c_B0;}
+  w2c_j0 = 18446744073709551615ull;
+  w2c_j1 = 32ull;
+  w2c_j2 = w2c_p0;
+  w2c_j3 = 31ull;
+  w2c_j2 += w2c_j3;
+  w2c_j3 = 8589934576ull;
+  w2c_j2 &= w2c_j3;
+  w2c_j3 = w2c_p0;
+  w2c_i3 = !(w2c_j3);
+  w2c_j1 = w2c_i3 ? w2c_j1 : w2c_j2;
+  w2c_l3 = w2c_j1;
+  w2c_j2 = 511ull;
+  w2c_i1 = w2c_j1 <= w2c_j2;
+  if (w2c_i1) {
+    w2c_j1 = w2c_l3;
+    w2c_j2 = 4ull;
+    w2c_j1 >>= (w2c_j2 & 63);
+    w2c_i1 = (u32)(w2c_j1);
+    goto w2c_B4;
+  }
+  w2c_j1 = w2c_l3;
+  w2c_j2 = 1ull;
+  w2c_j3 = 60ull;
+  w2c_j4 = w2c_l3;
+  w2c_j4 = I64_CLZ(w2c_j4);
+  w2c_j3 -= w2c_j4;
+  w2c_j2 <<= (w2c_j3 & 63);
+  w2c_j1 += w2c_j2;
+  w2c_j2 = 1ull;
   w2c_j1 -= w2c_j2;
   w2c_p0 = w2c_j1;
+  w2c_j2 = 60ull;
+  w2c_j3 = w2c_p0;
+  w2c_j3 = I64_CLZ(w2c_j3);
+  w2c_p0 = w2c_j3;
+  w2c_j2 -= w2c_j3;
+  w2c_j1 >>= (w2c_j2 & 63);
   w2c_i1 = (u32)(w2c_j1);
-  w2c_j1 = i64_load(&instance->w2c_memory, (u64)(w2c_i1));
+  w2c_i2 = 7u;
+  w2c_i1 &= w2c_i2;
+  w2c_j2 = w2c_p0;
+  w2c_i2 = (u32)(w2c_j2);
+  w2c_i3 = 3u;
+  w2c_i2 <<= (w2c_i3 & 31);
+  w2c_i1 -= w2c_i2;
+  w2c_i2 = 464u;
+  w2c_i1 += w2c_i2;
+  w2c_B4:;
+  w2c_l5 = w2c_i1;
+  w2c_j1 = (u64)(w2c_i1);
+  w2c_j0 <<= (w2c_j1 & 63);
+  w2c_i1 = w2c_l5;
+  w2c_i2 = 6u;
+  w2c_i1 >>= (w2c_i2 & 31);
+  w2c_l5 = w2c_i1;
+  w2c_j1 = (u64)(w2c_i1);
+  w2c_p0 = w2c_j1;
   w2c_j2 = 3ull;
   w2c_j1 <<= (w2c_j2 & 63);
-  w2c_l1 = w2c_j1;
   w2c_i1 = (u32)(w2c_j1);
-  w2c_j1 = i64_load(&instance->w2c_memory, (u64)(w2c_i1) + 1060608u);
-  i64_store(&instance->w2c_memory, (u64)(w2c_i0), w2c_j1);
-  w2c_j0 = w2c_l1;
-  w2c_i0 = (u32)(w2c_j0);
-  w2c_j1 = w2c_p0;
-  i64_store(&instance->w2c_memory, (u64)(w2c_i0) + 1060608, w2c_j1);
-  FUNC_EPILOGUE;
-}
-
-static void w2c_f123(Z_dine_ffi_instance_t* instance, u64 w2c_p0, u64 w2c_p1, u64 w2c_p2, u64 w2c_p3) {
-  u64 w2c_l4 = 0, w2c_l5 = 0, w2c_l6 = 0, w2c_l7 = 0, w2c_l8 = 0;
-  FUNC_PROLOGUE;
-  u32 w2c_i0, w2c_i1, w2c_i2;
-  u64 w2c_j0, w2c_j1, w2c_j2, w2c_j3;
-  w2c_j0 = 1ull;
-  w2c_l4 = w2c_j0;
-  w2c_j0 = w2c_p3;
-  w2c_j1 = 16ull;
-  w2c_j0 += w2c_j1;
-  w2c_l5 = w2c_j0;
-  w2c_j1 = 1ull;
-  w2c_j2 = w2c_p1;
-  w2c_j3 = 16ull;
-  w2c_j2 -= w2c_j3;
-  w2c_l8 = w2c_j2;
-  w2c_i2 = (u32)(w2c_j2);
-  w2c_j2 = i64_load(&instance->w2c_memory, (u64)(w2c_i2));
-  w2c_j1 <<= (w2c_j2 & 63);
+  w2c_j1 = i64_load(&instance->w2c_memory, (u64)(w2c_i1) + 1062656u);
+  w2c_j0 &= w2c_j1;
+  w2c_l2 = w2c_j0;
+  w2c_j1 = 0ull;
+  w2c_i0 = w2c_j0 != w2c_j1;
+  if (w2c_i0) {goto w2c_B3;}
+  w2c_j0 = w2c_p0;
+  w2c_j1 = 3ull;
+  w2c_i0 = w2c_j0 != w2c_j1;
+  if (w2c_i0) {
+    w2c_j0 = w2c_p0;
+    w2c_j1 = 3ull;
+    w2c_j0 -= w2c_j1;
+    w2c_l1 = w2c_j0;
+    w2c_i0 = w2c_l5;
+    w2c_i1 = 1u;
+    w2c_i0 += w2c_i1;
+    w2c_l5 = w2c_i0;
+    w2c_j0 = w2c_p0;
+    w2c_j1 = 3ull;
+    w2c_j0 <<= (w2c_j1 & 63);
+    w2c_j1 = 1062664ull;
+    w2c_j0 += w2c_j1;
+    w2c_p0 = w2c_j0;
+    w2c_L7: 
+      w2c_j0 = w2c_p0;
+      w2c_i0 = (u32)(w2c_j0);
+      w2c_j0 = i64_load(&instance->w2c_memory, (u64)(w2c_i0));
+      w2c_l2 = w2c_j0;
+      w2c_j1 = 0ull;
+      w2c_i0 = w2c_j0 != w2c_j1;
+      if (w2c_i0) {goto w2c_B3;}
+      w2c_j0 = w2c_p0;
+      w2c_j1 = 8ull;
+      w2c_j0 += w2c_j1;
+      w2c_p0 = w2c_j0;
+      w2c_i0 = w2c_l5;
+      w2c_i1 = 1u;
+      w2c_i0 += w2c_i1;
+      w2c_l5 = w2c_i0;
+      w2c_j0 = w2c_l1;
+      w2c_j1 = 1ull;
+      w2c_j0 += w2c_j1;
+      w2c_l1 = w2c_j0;
+      w2c_j1 = 0ull;
+      w2c_i0 = w2c_j0 != w2c_j1;
+      if (w2c_i0) {goto w2c_L7;}
+  }
+  w2c_j0 = w2c_l3;
+  w2c_j1 = 511ull;
   w2c_i0 = w2c_j0 <= w2c_j1;
   if (w2c_i0) {
-    w2c_j0 = w2c_p1;
-    w2c_l7 = w2c_j0;
-    goto w2c_B0;
-  }
-  w2c_j0 = 0ull;
-  w2c_l4 = w2c_j0;
-  w2c_j0 = w2c_p3;
-  w2c_j1 = 4294901760ull;
-  w2c_i0 = w2c_j0 > w2c_j1;
-  if (w2c_i0) {goto w2c_B0;}
-  w2c_j0 = 4ull;
-  w2c_p3 = w2c_j0;
-  w2c_j0 = 1060640ull;
-  w2c_l4 = w2c_j0;
-  w2c_L2: 
-    w2c_j0 = w2c_l4;
-    w2c_j1 = 8ull;
-    w2c_j0 += w2c_j1;
-    w2c_l4 = w2c_j0;
-    w2c_j0 = 1ull;
-    w2c_j1 = w2c_p3;
-    w2c_j2 = 1ull;
-    w2c_j1 += w2c_j2;
-    w2c_p3 = w2c_j1;
-    w2c_j0 <<= (w2c_j1 & 63);
-    w2c_l6 = w2c_j0;
-    w2c_j1 = w2c_l5;
-    w2c_i0 = w2c_j0 < w2c_j1;
-    if (w2c_i0) {goto w2c_L2;}
-  w2c_j0 = w2c_l4;
-  w2c_i0 = (u32)(w2c_j0);
-  w2c_j0 = i64_load(&instance->w2c_memory, (u64)(w2c_i0));
-  w2c_l5 = w2c_j0;
-  w2c_i0 = !(w2c_j0);
-  w2c_i0 = !(w2c_i0);
-  if (w2c_i0) {
-    w2c_j0 = w2c_l4;
-    w2c_i0 = (u32)(w2c_j0);
-    w2c_j1 = w2c_l5;
-    w2c_i1 = (u32)(w2c_j1);
-    w2c_j1 = i64_load(&instance->w2c_memory, (u64)(w2c_i1) + 8u);
-    i64_store(&instance->w2c_memory, (u64)(w2c_i0), w2c_j1);
-    goto w2c_B3;
-  }
-  w2c_j0 = 0ull;
-  w2c_l4 = w2c_j0;
-  w2c_i0 = 1060872u;
-  w2c_j0 = i64_load(&instance->w2c_memory, (u64)(w2c_i0));
-  w2c_l5 = w2c_j0;
-  w2c_i0 = !(w2c_j0);
-  if (w2c_i0) {
-    w2c_i0 = 1060872u;
-    w2c_j1 = 1060880ull;
-    w2c_l5 = w2c_j1;
-    i64_store(&instance->w2c_memory, (u64)(w2c_i0), w2c_j1);
-  }
-  w2c_j0 = w2c_l5;
-  w2c_j1 = w2c_l6;
-  w2c_j0 += w2c_j1;
-  w2c_l6 = w2c_j0;
-  w2c_j1 = 4294901760ull;
-  w2c_i0 = w2c_j0 > w2c_j1;
-  if (w2c_i0) {goto w2c_B0;}
-  w2c_i0 = instance->w2c_memory.pages;
-  w2c_j0 = (u64)(w2c_i0);
-  w2c_j1 = 16ull;
-  w2c_j0 <<= (w2c_j1 & 63);
-  w2c_l4 = w2c_j0;
-  w2c_j1 = w2c_l6;
-  w2c_i0 = w2c_j0 < w2c_j1;
-  if (w2c_i0) {
-    w2c_j0 = w2c_l6;
-    w2c_j1 = w2c_l4;
-    w2c_j0 -= w2c_j1;
-    w2c_j1 = 65535ull;
-    w2c_j0 += w2c_j1;
-    w2c_j1 = 16ull;
+    w2c_j0 = w2c_l3;
+    w2c_j1 = 4ull;
     w2c_j0 >>= (w2c_j1 & 63);
-    w2c_i0 = (u32)(w2c_j0);
-    w2c_i0 = wasm_rt_grow_memory(&instance->w2c_memory, w2c_i0);
+  } else {
+    w2c_j0 = w2c_l3;
+    w2c_j1 = 60ull;
+    w2c_j2 = w2c_l3;
+    w2c_j2 = I64_CLZ(w2c_j2);
+    w2c_p0 = w2c_j2;
+    w2c_j1 -= w2c_j2;
+    w2c_j0 >>= (w2c_j1 & 63);
+    w2c_j1 = 7ull;
+    w2c_j0 &= w2c_j1;
+    w2c_j1 = w2c_p0;
+    w2c_j2 = 3ull;
+    w2c_j1 <<= (w2c_j2 & 63);
+    w2c_j0 -= w2c_j1;
+    w2c_j1 = 464ull;
+    w2c_j0 += w2c_j1;
   }
-  w2c_j0 = 0ull;
-  w2c_l4 = w2c_j0;
-  w2c_j0 = w2c_l6;
-  w2c_i1 = instance->w2c_memory.pages;
-  w2c_j1 = (u64)(w2c_i1);
-  w2c_j2 = 16ull;
-  w2c_j1 <<= (w2c_j2 & 63);
-  w2c_i0 = w2c_j0 > w2c_j1;
-  if (w2c_i0) {goto w2c_B0;}
-  w2c_i0 = 1060872u;
-  w2c_j1 = w2c_l6;
-  i64_store(&instance->w2c_memory, (u64)(w2c_i0), w2c_j1);
-  w2c_j0 = w2c_l5;
+  w2c_j1 = 3ull;
+  w2c_j0 <<= (w2c_j1 & 63);
   w2c_i0 = (u32)(w2c_j0);
-  w2c_j1 = w2c_p3;
-  i64_store(&instance->w2c_memory, (u64)(w2c_i0), w2c_j1);
-  w2c_B3:;
-  w2c_j0 = w2c_l5;
-  w2c_j1 = 16ull;
-  w2c_j0 += w2c_j1;
-  w2c_l7 = w2c_j0;
-  w2c_j0 = w2c_p2;
+  w2c_j0 = i64_load(&instance->w2c_memory, (u64)(w2c_i0) + 1060608u);
+  w2c_p0 = w2c_j0;
   w2c_i0 = !(w2c_j0);
-  w2c_i0 = !(w2c_i0);
-  if (w2c_i0) {
-    w2c_j0 = w2c_l7;
+  if (w2c_i0) {goto w2c_B1;}
+  w2c_L9: 
+    w2c_j0 = w2c_p0;
     w2c_i0 = (u32)(w2c_j0);
-    w2c_j1 = w2c_p1;
-    w2c_i1 = (u32)(w2c_j1);
-    w2c_j2 = w2c_p2;
-    w2c_i2 = (u32)(w2c_j2);
-    memory_copy(&instance->w2c_memory, &instance->w2c_memory, w2c_i0, w2c_i1, w2c_i2);
-  }
-  w2c_j0 = w2c_p1;
-  w2c_j1 = 8ull;
-  w2c_j0 -= w2c_j1;
+    w2c_j0 = i64_load(&instance->w2c_memory, (u64)(w2c_i0));
+    w2c_l1 = w2c_j0;
+    w2c_j1 = 18446744073709551614ull;
+    w2c_j0 &= w2c_j1;
+    w2c_l2 = w2c_j0;
+    w2c_j1 = w2c_l3;
+    w2c_i0 = w2c_j0 >= w2c_j1;
+    if (w2c_i0) {goto w2c_B2;}
+    w2c_j0 = w2c_p0;
+    w2c_i0 = (u32)(w2c_j0);
+    w2c_j0 = i64_load(&instance->w2c_memory, (u64)(w2c_i0) + 16u);
+    w2c_p0 = w2c_j0;
+    w2c_i0 = !(w2c_j0);
+    w2c_i0 = !(w2c_i0);
+    if (w2c_i0) {goto w2c_L9;}
+  goto w2c_B1;
+  w2c_B3:;
+  w2c_j0 = w2c_l2;
+  w2c_j0 = I64_CTZ(w2c_j0);
   w2c_i0 = (u32)(w2c_j0);
-  w2c_j1 = w2c_l8;
-  w2c_i1 = (u32)(w2c_j1);
-  w2c_j1 = i64_load(&instance->w2c_memory, (u64)(w2c_i1));
-  w2c_j2 = 3ull;
-  w2c_j1 <<= (w2c_j2 & 63);
-  w2c_l4 = w2c_j1;
-  w2c_i1 = (u32)(w2c_j1);
-  w2c_j1 = i64_load(&instance->w2c_memory, (u64)(w2c_i1) + 1060608u);
-  i64_store(&instance->w2c_memory, (u64)(w2c_i0), w2c_j1);
-  w2c_j0 = w2c_l4;
+  w2c_i1 = w2c_l5;
+  w2c_i2 = 6u;
+  w2c_i1 <<= (w2c_i2 & 31);
+  w2c_i0 |= w2c_i1;
+  w2c_j0 = (u64)(w2c_i0);
+  w2c_j1 = 3ull;
+  w2c_j0 <<= (w2c_j1 & 63);
   w2c_i0 = (u32)(w2c_j0);
-  w2c_j1 = w2c_l8;
-  i64_store(&instance->w2c_memory, (u64)(w2c_i0) + 1060608, w2c_j1);
-  w2c_j0 = 1ull;
-  w2c_l4 = w2c_j0;
-  w2c_B0:;
+  w2c_j0 = i64_load(&instance->w2c_memory, (u64)(w2c_i0) + 1060608u);
+  w2c_p0 = w2c_j0;
+  w2c_i0 = !(w2c_j0);
+  if (w2c_i0) {goto w2c_B1;}
   w2c_j0 = w2c_p0;
   w2c_i0 = (u32)(w2c_j0);
-  w2c_j1 = w2c_l7;
+  w2c_j0 = i64_load(&instance->w2c_memory, (u64)(w2c_i0));
+  w2c_l1 = w2c_j0;
+  w2c_j1 = 18446744073709551614ull;
+  w2c_j0 &= w2c_j1;
+  w2c_l2 = w2c_j0;
+  w2c_B2:;
+  w2c_j0 = w2c_l1;
+  w2c_j1 = 511ull;
+  w2c_i0 = w2c_j0 <= w2c_j1;
+  if (w2c_i0) {
+    w2c_j0 = w2c_l1;
+    w2c_j1 = 4ull;
+    w2c_j0 >>= (w2c_j1 & 63);
+    w2c_i0 = (u32)(w2c_j0);
+  } else {
+    w2c_j0 = w2c_l2;
+    w2c_j1 = 60ull;
+    w2c_j2 = w2c_l2;
+    w2c_j2 = I64_CLZ(w2c_j2);
+    w2c_l1 = w2c_j2;
+    w2c_j1 -= w2c_j2;
+    w2c_j0 >>= (w2c_j1 & 63);
+    w2c_i0 = (u32)(w2c_j0);
+    w2c_i1 = 7u;
+    w2c_i0 &= w2c_i1;
+    w2c_j1 = w2c_l1;
+    w2c_i1 = (u32)(w2c_j1);
+    w2c_i2 = 3u;
+    w2c_i1 <<= (w2c_i2 & 31);
+    w2c_i0 -= w2c_i1;
+    w2c_i1 = 464u;
+    w2c_i0 += w2c_i1;
+  }
+  w2c_l5 = w2c_i0;
+  w2c_j0 = w2c_p0;
+  w2c_i0 = (u32)(w2c_j0);
+  w2c_j1 = w2c_l2;
+  i64_store(&instance->w2c_memory, (u64)(w2c_i0), w2c_j1);
+  w2c_j0 = w2c_p0;
+  w2c_i0 = (u32)(w2c_j0);
+  w2c_j0 = i64_load(&instance->w2c_memory, (u64)(w2c_i0) + 24u);
+  w2c_l4 = w2c_j0;
+  w2c_j0 = w2c_p0;
+  w2c_i0 = (u32)(w2c_j0);
+  w2c_j0 = i64_load(&instance->w2c_memory, (u64)(w2c_i0) + 16u);
+  w2c_l1 = w2c_j0;
+  w2c_i0 = !(w2c_j0);
+  w2c_i0 = !(w2c_i0);
+  if (w2c_i0) {
+    w2c_j0 = w2c_l1;
+    w2c_i0 = (u32)(w2c_j0);
+    w2c_j1 = w2c_l4;
+    i64_store(&instance->w2c_memory, (u64)(w2c_i0) + 24, w2c_j1);
+  }
+  w2c_j0 = w2c_l4;
+  w2c_i0 = !(w2c_j0);
+  w2c_i0 = !(w2c_i0);
+  if (w2c_i0) {
+    w2c_j0 = w2c_l4;
+    w2c_i0 = (u32)(w2c_j0);
+    w2c_j1 = w2c_l1;
+    i64_store(&instance->w2c_memory, (u64)(w2c_i0) + 16, w2c_j1);
+    w2c_i0 = w2c_l5;
+    w2c_j0 = (u64)(w2c_i0);
+    w2c_j1 = 3ull;
+    w2c_j0 <<= (w2c_j1 & 63);
+    w2c_i0 = (u32)(w2c_j0);
+    w2c_j0 = i64_load(&instance->w2c_memory, (u64)(w2c_i0) + 1060608u);
+    w2c_l1 = w2c_j0;
+    goto w2c_B12;
+  }
+  w2c_i0 = w2c_l5;
+  w2c_j0 = (u64)(w2c_i0);
+  w2c_j1 = 3ull;
+  w2c_j0 <<= (w2c_j1 & 63);
+  w2c_i0 = (u32)(w2c_j0);
+  w2c_j1 = w2c_l1;
+  i64_store(&instance->w2c_memory, (u64)(w2c_i0) + 1060608, w2c_j1);
+  w2c_B12:;
+  w2c_j0 = w2c_l1;
+  w2c_i0 = !(w2c_j0);
+  if (w2c_i0) {
+    w2c_i0 = w2c_l5;
+    w2c_i1 = 6u;
+    w2c_i0 >>= (w2c_i1 & 31);
+    w2c_j0 = (u64)(w2c_i0);
+    w2c_j1 = 3ull;
+    w2c_j0 <<= (w2c_j1 & 63);
+    w2c_l1 = w2c_j0;
+    w2c_i0 = (u32)(w2c_j0);
+    w2c_j1 = w2c_l1;
+    w2c_i1 = (u32)(w2c_j1);
+    w2c_j1 = i64_load(&instance->w2c_memory, (u64)(w2c_i1) + 1062656u);
+    w2c_j2 = 18446744073709551614ull;
+    w2c_i3 = w2c_l5;
+    w2c_j3 = (u64)(w2c_i3);
+    w2c_j2 = I64_ROTL(w2c_j2, w2c_j3);
+    w2c_j1 &= w2c_j2;
+    i64_store(&instance->w2c_memory, (u64)(w2c_i0) + 1062656, w2c_j1);
+    w2c_j0 = w2c_p0;
+    w2c_i0 = (u32)(w2c_j0);
+    w2c_j0 = i64_load(&instance->w2c_memory, (u64)(w2c_i0));
+    w2c_l2 = w2c_j0;
+  }
+  w2c_j0 = w2c_p0;
+  w2c_j1 = 16ull;
+  w2c_j0 += w2c_j1;
+  w2c_l1 = w2c_j0;
+  w2c_j0 = w2c_l2;
+  w2c_j1 = 18446744073709551614ull;
+  w2c_j0 &= w2c_j1;
+  w2c_j1 = w2c_l3;
+  w2c_j0 -= w2c_j1;
+  w2c_l2 = w2c_j0;
+  w2c_j1 = 32ull;
+  w2c_i0 = w2c_j0 < w2c_j1;
+  if (w2c_i0) {goto w2c_B0;}
+  w2c_j0 = w2c_p0;
+  w2c_i0 = (u32)(w2c_j0);
+  w2c_j1 = w2c_l3;
+  i64_store(&instance->w2c_memory, (u64)(w2c_i0), w2c_j1);
+  w2c_j0 = w2c_p0;
+  w2c_j1 = w2c_l3;
+  w2c_j2 = 4294967280ull;
+  w2c_j1 &= w2c_j2;
+  w2c_j0 += w2c_j1;
+  w2c_p0 = w2c_j0;
+  w2c_i0 = (u32)(w2c_j0);
+  w2c_j1 = w2c_l3;
   i64_store(&instance->w2c_memory, (u64)(w2c_i0) + 8, w2c_j1);
   w2c_j0 = w2c_p0;
   w2c_i0 = (u32)(w2c_j0);
-  w2c_j1 = w2c_l4;
+  w2c_j1 = w2c_l2;
   i64_store(&instance->w2c_memory, (u64)(w2c_i0), w2c_j1);
-  FUNC_EPILOGUE;
-}
-
-static u64 w2c_room(Z_dine_ffi_instance_t* instance, u64 w2c_p0) {
-  u64 w2c_l1 = 0, w2c_l2 = 0, w2c_l3 = 0, w2c_l4 = 0;
-  FUNC_PROLOGUE;
-  u32 w2c_i0, w2c_i1;
-  u64 w2c_j0, w2c_j1, w2c_j2;
   w2c_j0 = w2c_p0;
-  w2c_j1 = 4294901760ull;
-  w2c_i0 = w2c_j0 > w2c_j1;
-  if (w2c_i0) {goto w2c_B0;}
-  w2c_j0 = w2c_p0;
-  w2c_j1 = 16ull;
+  w2c_j1 = w2c_l2;
   w2c_j0 += w2c_j1;
-  w2c_l1 = w2c_j0;
-  w2c_j0 = 4ull;
   w2c_l3 = w2c_j0;
-  w2c_j0 = 1060640ull;
-  w2c_p0 = w2c_j0;
-  w2c_L1: 
+  w2c_i1 = 1062696u;
+  w2c_j1 = i64_load(&instance->w2c_memory, (u64)(w2c_i1));
+  w2c_i0 = w2c_j0 == w2c_j1;
+  if (w2c_i0) {
+    w2c_i0 = 1062704u;
+    w2c_j1 = w2c_l2;
+    i64_store(&instance->w2c_memory, (u64)(w2c_i0), w2c_j1);
     w2c_j0 = w2c_p0;
-    w2c_j1 = 8ull;
-    w2c_j0 += w2c_j1;
-    w2c_p0 = w2c_j0;
-    w2c_j0 = 1ull;
-    w2c_j1 = w2c_l3;
-    w2c_j2 = 1ull;
-    w2c_j1 += w2c_j2;
-    w2c_l3 = w2c_j1;
-    w2c_j0 <<= (w2c_j1 & 63);
-    w2c_l2 = w2c_j0;
-    w2c_j1 = w2c_l1;
-    w2c_i0 = w2c_j0 < w2c_j1;
-    if (w2c_i0) {goto w2c_L1;}
-  w2c_j0 = w2c_p0;
+    w2c_f125(instance, w2c_j0);
+    w2c_j0 = w2c_l1;
+    goto w2c_Bfunc;
+  }
+  w2c_j0 = w2c_l3;
   w2c_i0 = (u32)(w2c_j0);
+  w2c_j1 = w2c_l2;
+  i64_store(&instance->w2c_memory, (u64)(w2c_i0) + 8, w2c_j1);
+  w2c_j0 = w2c_p0;
+  w2c_f125(instance, w2c_j0);
+  w2c_j0 = w2c_l1;
+  goto w2c_Bfunc;
+  w2c_B1:;
+  w2c_i0 = 1062688u;
   w2c_j0 = i64_load(&instance->w2c_memory, (u64)(w2c_i0));
-  w2c_l1 = w2c_j0;
   w2c_i0 = !(w2c_j0);
   w2c_i0 = !(w2c_i0);
   if (w2c_i0) {
-    w2c_j0 = w2c_p0;
-    w2c_i0 = (u32)(w2c_j0);
-    w2c_j1 = w2c_l1;
-    w2c_i1 = (u32)(w2c_j1);
-    w2c_j1 = i64_load(&instance->w2c_memory, (u64)(w2c_i1) + 8u);
-    i64_store(&instance->w2c_memory, (u64)(w2c_i0), w2c_j1);
-    w2c_j0 = w2c_l1;
-    w2c_j1 = 16ull;
-    w2c_j0 += w2c_j1;
-    goto w2c_Bfunc;
+    w2c_i0 = 1062696u;
+    w2c_j0 = i64_load(&instance->w2c_memory, (u64)(w2c_i0));
+    w2c_p0 = w2c_j0;
+    goto w2c_B16;
   }
+  w2c_i0 = 1062688u;
+  w2c_j1 = 1062720ull;
+  w2c_p0 = w2c_j1;
+  i64_store(&instance->w2c_memory, (u64)(w2c_i0), w2c_j1);
+  w2c_i0 = 1062696u;
+  w2c_j1 = w2c_p0;
+  i64_store(&instance->w2c_memory, (u64)(w2c_i0), w2c_j1);
+  w2c_B16:;
   w2c_j0 = 0ull;
   w2c_l1 = w2c_j0;
-  w2c_i0 = 1060872u;
-  w2c_j0 = i64_load(&instance->w2c_memory, (u64)(w2c_i0));
-  w2c_p0 = w2c_j0;
-  w2c_i0 = !(w2c_j0);
-  if (w2c_i0) {
-    w2c_i0 = 1060872u;
-    w2c_j1 = 1060880ull;
-    w2c_p0 = w2c_j1;
-    i64_store(&instance->w2c_memory, (u64)(w2c_i0), w2c_j1);
-  }
   w2c_j0 = w2c_p0;
-  w2c_j1 = w2c_l2;
+  w2c_j1 = w2c_l3;
   w2c_j0 += w2c_j1;
   w2c_l2 = w2c_j0;
   w2c_j1 = 4294901760ull;
@@ -87358,12 +88290,23 @@ static u64 w2c_room(Z_dine_ffi_instance_t* instance, u64 w2c_p0) {
   w2c_j1 <<= (w2c_j2 & 63);
   w2c_i0 = w2c_j0 > w2c_j1;
   if (w2c_i0) {goto w2c_B0;}
-  w2c_i0 = 1060872u;
-  w2c_j1 = w2c_l2;
-  i64_store(&instance->w2c_memory, (u64)(w2c_i0), w2c_j1);
   w2c_j0 = w2c_p0;
   w2c_i0 = (u32)(w2c_j0);
   w2c_j1 = w2c_l3;
+  i64_store(&instance->w2c_memory, (u64)(w2c_i0), w2c_j1);
+  w2c_j0 = w2c_p0;
+  w2c_i0 = (u32)(w2c_j0);
+  w2c_i1 = 1062704u;
+  w2c_j1 = i64_load(&instance->w2c_memory, (u64)(w2c_i1));
+  i64_store(&instance->w2c_memory, (u64)(w2c_i0) + 8, w2c_j1);
+  w2c_i0 = 1062704u;
+  w2c_j1 = w2c_l3;
+  i64_store(&instance->w2c_memory, (u64)(w2c_i0), w2c_j1);
+  w2c_i0 = 1062696u;
+  w2c_i1 = 1062696u;
+  w2c_j1 = i64_load(&instance->w2c_memory, (u64)(w2c_i1));
+  w2c_j2 = w2c_l3;
+  w2c_j1 += w2c_j2;
   i64_store(&instance->w2c_memory, (u64)(w2c_i0), w2c_j1);
   w2c_j0 = w2c_p0;
   w2c_j1 = 16ull;
@@ -87376,116 +88319,861 @@ static u64 w2c_room(Z_dine_ffi_instance_t* instance, u64 w2c_p0) {
   return w2c_j0;
 }
 
-static void w2c_reset(Z_dine_ffi_instance_t* instance) {
+static void w2c_f125(Z_dine_ffi_instance_t* instance, u64 w2c_p0) {
+  u32 w2c_l6 = 0;
+  u64 w2c_l1 = 0, w2c_l2 = 0, w2c_l3 = 0, w2c_l4 = 0, w2c_l5 = 0;
   FUNC_PROLOGUE;
-  u32 w2c_i0;
-  u64 w2c_j1;
-  w2c_i0 = 1060864u;
+  u32 w2c_i0, w2c_i1, w2c_i2, w2c_i3;
+  u64 w2c_j0, w2c_j1, w2c_j2, w2c_j3;
+  w2c_i0 = 1062696u;
+  w2c_j0 = i64_load(&instance->w2c_memory, (u64)(w2c_i0));
+  w2c_l4 = w2c_j0;
+  w2c_j1 = w2c_p0;
+  w2c_j2 = w2c_p0;
+  w2c_i2 = (u32)(w2c_j2);
+  w2c_j2 = i64_load(&instance->w2c_memory, (u64)(w2c_i2));
+  w2c_l3 = w2c_j2;
+  w2c_j3 = 18446744073709551614ull;
+  w2c_j2 &= w2c_j3;
+  w2c_j1 += w2c_j2;
+  w2c_l1 = w2c_j1;
+  w2c_i0 = w2c_j0 == w2c_j1;
+  if (w2c_i0) {goto w2c_B0;}
+  w2c_j0 = w2c_l1;
+  w2c_i0 = (u32)(w2c_j0);
+  w2c_j0 = i64_load(&instance->w2c_memory, (u64)(w2c_i0));
+  w2c_l2 = w2c_j0;
+  w2c_j1 = 1ull;
+  w2c_j0 &= w2c_j1;
+  w2c_i0 = !(w2c_j0);
+  if (w2c_i0) {goto w2c_B0;}
+  w2c_j0 = w2c_l2;
+  w2c_j1 = 18446744073709551614ull;
+  w2c_j0 &= w2c_j1;
+  w2c_l3 = w2c_j0;
+  w2c_j0 = w2c_l2;
+  w2c_j1 = 511ull;
+  w2c_i0 = w2c_j0 <= w2c_j1;
+  if (w2c_i0) {
+    w2c_j0 = w2c_l2;
+    w2c_j1 = 4ull;
+    w2c_j0 >>= (w2c_j1 & 63);
+    w2c_i0 = (u32)(w2c_j0);
+  } else {
+    w2c_j0 = w2c_l3;
+    w2c_j1 = 60ull;
+    w2c_j2 = w2c_l3;
+    w2c_j2 = I64_CLZ(w2c_j2);
+    w2c_l2 = w2c_j2;
+    w2c_j1 -= w2c_j2;
+    w2c_j0 >>= (w2c_j1 & 63);
+    w2c_i0 = (u32)(w2c_j0);
+    w2c_i1 = 7u;
+    w2c_i0 &= w2c_i1;
+    w2c_j1 = w2c_l2;
+    w2c_i1 = (u32)(w2c_j1);
+    w2c_i2 = 3u;
+    w2c_i1 <<= (w2c_i2 & 31);
+    w2c_i0 -= w2c_i1;
+    w2c_i1 = 464u;
+    w2c_i0 += w2c_i1;
+  }
+  w2c_l6 = w2c_i0;
+  w2c_j0 = w2c_l1;
+  w2c_i0 = (u32)(w2c_j0);
+  w2c_j1 = w2c_l3;
+  i64_store(&instance->w2c_memory, (u64)(w2c_i0), w2c_j1);
+  w2c_j0 = w2c_l1;
+  w2c_i0 = (u32)(w2c_j0);
+  w2c_j0 = i64_load(&instance->w2c_memory, (u64)(w2c_i0) + 24u);
+  w2c_l2 = w2c_j0;
+  w2c_j0 = w2c_l1;
+  w2c_i0 = (u32)(w2c_j0);
+  w2c_j0 = i64_load(&instance->w2c_memory, (u64)(w2c_i0) + 16u);
+  w2c_l1 = w2c_j0;
+  w2c_i0 = !(w2c_j0);
+  w2c_i0 = !(w2c_i0);
+  if (w2c_i0) {
+    w2c_j0 = w2c_l1;
+    w2c_i0 = (u32)(w2c_j0);
+    w2c_j1 = w2c_l2;
+    i64_store(&instance->w2c_memory, (u64)(w2c_i0) + 24, w2c_j1);
+  }
+  w2c_j0 = w2c_l2;
+  w2c_i0 = !(w2c_j0);
+  w2c_i0 = !(w2c_i0);
+  if (w2c_i0) {
+    w2c_j0 = w2c_l2;
+    w2c_i0 = (u32)(w2c_j0);
+    w2c_j1 = w2c_l1;
+    i64_store(&instance->w2c_memory, (u64)(w2c_i0) + 16, w2c_j1);
+    w2c_i0 = w2c_l6;
+    w2c_j0 = (u64)(w2c_i0);
+    w2c_j1 = 3ull;
+    w2c_j0 <<= (w2c_j1 & 63);
+    w2c_i0 = (u32)(w2c_j0);
+    w2c_j0 = i64_load(&instance->w2c_memory, (u64)(w2c_i0) + 1060608u);
+    w2c_l1 = w2c_j0;
+    goto w2c_B3;
+  }
+  w2c_i0 = w2c_l6;
+  w2c_j0 = (u64)(w2c_i0);
+  w2c_j1 = 3ull;
+  w2c_j0 <<= (w2c_j1 & 63);
+  w2c_i0 = (u32)(w2c_j0);
+  w2c_j1 = w2c_l1;
+  i64_store(&instance->w2c_memory, (u64)(w2c_i0) + 1060608, w2c_j1);
+  w2c_B3:;
+  w2c_j0 = w2c_l1;
+  w2c_i0 = !(w2c_j0);
+  if (w2c_i0) {
+    w2c_i0 = w2c_l6;
+    w2c_i1 = 6u;
+    w2c_i0 >>= (w2c_i1 & 31);
+    w2c_j0 = (u64)(w2c_i0);
+    w2c_j1 = 3ull;
+    w2c_j0 <<= (w2c_j1 & 63);
+    w2c_l1 = w2c_j0;
+    w2c_i0 = (u32)(w2c_j0);
+    w2c_j1 = w2c_l1;
+    w2c_i1 = (u32)(w2c_j1);
+    w2c_j1 = i64_load(&instance->w2c_memory, (u64)(w2c_i1) + 1062656u);
+    w2c_j2 = 18446744073709551614ull;
+    w2c_i3 = w2c_l6;
+    w2c_j3 = (u64)(w2c_i3);
+    w2c_j2 = I64_ROTL(w2c_j2, w2c_j3);
+    w2c_j1 &= w2c_j2;
+    i64_store(&instance->w2c_memory, (u64)(w2c_i0) + 1062656, w2c_j1);
+  }
+  w2c_j0 = w2c_p0;
+  w2c_i0 = (u32)(w2c_j0);
+  w2c_j1 = w2c_p0;
+  w2c_i1 = (u32)(w2c_j1);
+  w2c_j1 = i64_load(&instance->w2c_memory, (u64)(w2c_i1));
+  w2c_j2 = w2c_l3;
+  w2c_j1 += w2c_j2;
+  w2c_l3 = w2c_j1;
+  i64_store(&instance->w2c_memory, (u64)(w2c_i0), w2c_j1);
+  w2c_B0:;
+  w2c_j0 = w2c_p0;
+  w2c_i0 = (u32)(w2c_j0);
+  w2c_j0 = i64_load(&instance->w2c_memory, (u64)(w2c_i0) + 8u);
+  w2c_l1 = w2c_j0;
+  w2c_i0 = !(w2c_j0);
+  if (w2c_i0) {
+    w2c_j0 = w2c_p0;
+    w2c_l1 = w2c_j0;
+    goto w2c_B6;
+  }
+  w2c_j0 = w2c_p0;
+  w2c_j1 = w2c_l1;
+  w2c_j0 -= w2c_j1;
+  w2c_l1 = w2c_j0;
+  w2c_i0 = (u32)(w2c_j0);
+  w2c_j0 = i64_load(&instance->w2c_memory, (u64)(w2c_i0));
+  w2c_l2 = w2c_j0;
+  w2c_j1 = 1ull;
+  w2c_j0 &= w2c_j1;
+  w2c_i0 = !(w2c_j0);
+  if (w2c_i0) {
+    w2c_j0 = w2c_p0;
+    w2c_l1 = w2c_j0;
+    goto w2c_B6;
+  }
+  w2c_j0 = w2c_l2;
+  w2c_j1 = 18446744073709551614ull;
+  w2c_j0 &= w2c_j1;
+  w2c_l5 = w2c_j0;
+  w2c_j0 = w2c_l2;
+  w2c_j1 = 511ull;
+  w2c_i0 = w2c_j0 <= w2c_j1;
+  if (w2c_i0) {
+    w2c_j0 = w2c_l2;
+    w2c_j1 = 4ull;
+    w2c_j0 >>= (w2c_j1 & 63);
+    w2c_i0 = (u32)(w2c_j0);
+  } else {
+    w2c_j0 = w2c_l5;
+    w2c_j1 = 60ull;
+    w2c_j2 = w2c_l5;
+    w2c_j2 = I64_CLZ(w2c_j2);
+    w2c_p0 = w2c_j2;
+    w2c_j1 -= w2c_j2;
+    w2c_j0 >>= (w2c_j1 & 63);
+    w2c_i0 = (u32)(w2c_j0);
+    w2c_i1 = 7u;
+    w2c_i0 &= w2c_i1;
+    w2c_j1 = w2c_p0;
+    w2c_i1 = (u32)(w2c_j1);
+    w2c_i2 = 3u;
+    w2c_i1 <<= (w2c_i2 & 31);
+    w2c_i0 -= w2c_i1;
+    w2c_i1 = 464u;
+    w2c_i0 += w2c_i1;
+  }
+  w2c_l6 = w2c_i0;
+  w2c_j0 = w2c_l1;
+  w2c_i0 = (u32)(w2c_j0);
+  w2c_j0 = i64_load(&instance->w2c_memory, (u64)(w2c_i0) + 24u);
+  w2c_l2 = w2c_j0;
+  w2c_j0 = w2c_l1;
+  w2c_i0 = (u32)(w2c_j0);
+  w2c_j0 = i64_load(&instance->w2c_memory, (u64)(w2c_i0) + 16u);
+  w2c_p0 = w2c_j0;
+  w2c_i0 = !(w2c_j0);
+  w2c_i0 = !(w2c_i0);
+  if (w2c_i0) {
+    w2c_j0 = w2c_p0;
+    w2c_i0 = (u32)(w2c_j0);
+    w2c_j1 = w2c_l2;
+    i64_store(&instance->w2c_memory, (u64)(w2c_i0) + 24, w2c_j1);
+  }
+  w2c_j0 = w2c_l2;
+  w2c_i0 = !(w2c_j0);
+  w2c_i0 = !(w2c_i0);
+  if (w2c_i0) {
+    w2c_j0 = w2c_l2;
+    w2c_i0 = (u32)(w2c_j0);
+    w2c_j1 = w2c_p0;
+    i64_store(&instance->w2c_memory, (u64)(w2c_i0) + 16, w2c_j1);
+    w2c_i0 = w2c_l6;
+    w2c_j0 = (u64)(w2c_i0);
+    w2c_j1 = 3ull;
+    w2c_j0 <<= (w2c_j1 & 63);
+    w2c_i0 = (u32)(w2c_j0);
+    w2c_j0 = i64_load(&instance->w2c_memory, (u64)(w2c_i0) + 1060608u);
+    w2c_p0 = w2c_j0;
+    goto w2c_B11;
+  }
+  w2c_i0 = w2c_l6;
+  w2c_j0 = (u64)(w2c_i0);
+  w2c_j1 = 3ull;
+  w2c_j0 <<= (w2c_j1 & 63);
+  w2c_i0 = (u32)(w2c_j0);
+  w2c_j1 = w2c_p0;
+  i64_store(&instance->w2c_memory, (u64)(w2c_i0) + 1060608, w2c_j1);
+  w2c_B11:;
+  w2c_j0 = w2c_l3;
+  w2c_j1 = 18446744073709551614ull;
+  w2c_j0 &= w2c_j1;
+  w2c_l3 = w2c_j0;
+  w2c_j0 = w2c_p0;
+  w2c_i0 = !(w2c_j0);
+  if (w2c_i0) {
+    w2c_i0 = w2c_l6;
+    w2c_i1 = 6u;
+    w2c_i0 >>= (w2c_i1 & 31);
+    w2c_j0 = (u64)(w2c_i0);
+    w2c_j1 = 3ull;
+    w2c_j0 <<= (w2c_j1 & 63);
+    w2c_p0 = w2c_j0;
+    w2c_i0 = (u32)(w2c_j0);
+    w2c_j1 = w2c_p0;
+    w2c_i1 = (u32)(w2c_j1);
+    w2c_j1 = i64_load(&instance->w2c_memory, (u64)(w2c_i1) + 1062656u);
+    w2c_j2 = 18446744073709551614ull;
+    w2c_i3 = w2c_l6;
+    w2c_j3 = (u64)(w2c_i3);
+    w2c_j2 = I64_ROTL(w2c_j2, w2c_j3);
+    w2c_j1 &= w2c_j2;
+    i64_store(&instance->w2c_memory, (u64)(w2c_i0) + 1062656, w2c_j1);
+  }
+  w2c_j0 = w2c_l1;
+  w2c_i0 = (u32)(w2c_j0);
+  w2c_j1 = w2c_l3;
+  w2c_j2 = w2c_l5;
+  w2c_j1 += w2c_j2;
+  w2c_l3 = w2c_j1;
+  i64_store(&instance->w2c_memory, (u64)(w2c_i0), w2c_j1);
+  w2c_B6:;
+  w2c_j0 = w2c_l1;
+  w2c_j1 = w2c_l3;
+  w2c_j2 = 18446744073709551614ull;
+  w2c_j1 &= w2c_j2;
+  w2c_p0 = w2c_j1;
+  w2c_j0 += w2c_j1;
+  w2c_l2 = w2c_j0;
+  w2c_j1 = w2c_l4;
+  w2c_i0 = w2c_j0 == w2c_j1;
+  if (w2c_i0) {
+    w2c_i0 = 1062696u;
+    w2c_j1 = w2c_l1;
+    i64_store(&instance->w2c_memory, (u64)(w2c_i0), w2c_j1);
+    w2c_i0 = 1062704u;
+    w2c_j1 = w2c_l1;
+    w2c_i1 = (u32)(w2c_j1);
+    w2c_j1 = i64_load(&instance->w2c_memory, (u64)(w2c_i1) + 8u);
+    i64_store(&instance->w2c_memory, (u64)(w2c_i0), w2c_j1);
+    goto w2c_Bfunc;
+  }
+  w2c_j0 = w2c_l2;
+  w2c_i0 = (u32)(w2c_j0);
+  w2c_j1 = w2c_p0;
+  i64_store(&instance->w2c_memory, (u64)(w2c_i0) + 8, w2c_j1);
+  w2c_j0 = w2c_l1;
+  w2c_i0 = (u32)(w2c_j0);
+  w2c_j1 = 0ull;
+  i64_store(&instance->w2c_memory, (u64)(w2c_i0) + 24, w2c_j1);
+  w2c_j0 = w2c_l1;
+  w2c_i0 = (u32)(w2c_j0);
+  w2c_j1 = w2c_l3;
+  w2c_j2 = 1ull;
+  w2c_j1 |= w2c_j2;
+  i64_store(&instance->w2c_memory, (u64)(w2c_i0), w2c_j1);
+  w2c_j0 = w2c_l1;
+  w2c_i0 = (u32)(w2c_j0);
+  w2c_j1 = w2c_l3;
+  w2c_j2 = 511ull;
+  w2c_i1 = w2c_j1 <= w2c_j2;
+  if (w2c_i1) {
+    w2c_j1 = w2c_l3;
+    w2c_j2 = 4ull;
+    w2c_j1 >>= (w2c_j2 & 63);
+    w2c_i1 = (u32)(w2c_j1);
+  } else {
+    w2c_j1 = w2c_p0;
+    w2c_j2 = 60ull;
+    w2c_j3 = w2c_p0;
+    w2c_j3 = I64_CLZ(w2c_j3);
+    w2c_l4 = w2c_j3;
+    w2c_j2 -= w2c_j3;
+    w2c_j1 >>= (w2c_j2 & 63);
+    w2c_i1 = (u32)(w2c_j1);
+    w2c_i2 = 7u;
+    w2c_i1 &= w2c_i2;
+    w2c_j2 = w2c_l4;
+    w2c_i2 = (u32)(w2c_j2);
+    w2c_i3 = 3u;
+    w2c_i2 <<= (w2c_i3 & 31);
+    w2c_i1 -= w2c_i2;
+    w2c_i2 = 464u;
+    w2c_i1 += w2c_i2;
+  }
+  w2c_l6 = w2c_i1;
+  w2c_j1 = (u64)(w2c_i1);
+  w2c_l3 = w2c_j1;
+  w2c_j2 = 3ull;
+  w2c_j1 <<= (w2c_j2 & 63);
+  w2c_l4 = w2c_j1;
+  w2c_i1 = (u32)(w2c_j1);
+  w2c_j1 = i64_load(&instance->w2c_memory, (u64)(w2c_i1) + 1060608u);
+  w2c_p0 = w2c_j1;
+  i64_store(&instance->w2c_memory, (u64)(w2c_i0) + 16, w2c_j1);
+  w2c_j0 = w2c_l4;
+  w2c_j1 = 1060608ull;
+  w2c_j0 += w2c_j1;
+  w2c_l4 = w2c_j0;
+  w2c_j0 = w2c_p0;
+  w2c_i0 = !(w2c_j0);
+  w2c_i0 = !(w2c_i0);
+  if (w2c_i0) {
+    w2c_j0 = w2c_p0;
+    w2c_i0 = (u32)(w2c_j0);
+    w2c_j1 = w2c_l1;
+    i64_store(&instance->w2c_memory, (u64)(w2c_i0) + 24, w2c_j1);
+  }
+  w2c_j0 = w2c_l4;
+  w2c_i0 = (u32)(w2c_j0);
+  w2c_j1 = w2c_l1;
+  i64_store(&instance->w2c_memory, (u64)(w2c_i0), w2c_j1);
+  w2c_i0 = w2c_l6;
+  w2c_i1 = 6u;
+  w2c_i0 >>= (w2c_i1 & 31);
+  w2c_j0 = (u64)(w2c_i0);
+  w2c_j1 = 3ull;
+  w2c_j0 <<= (w2c_j1 & 63);
+  w2c_l1 = w2c_j0;
+  w2c_i0 = (u32)(w2c_j0);
+  w2c_j1 = w2c_l1;
+  w2c_i1 = (u32)(w2c_j1);
+  w2c_j1 = i64_load(&instance->w2c_memory, (u64)(w2c_i1) + 1062656u);
+  w2c_j2 = 1ull;
+  w2c_j3 = w2c_l3;
+  w2c_j2 <<= (w2c_j3 & 63);
+  w2c_j1 |= w2c_j2;
+  i64_store(&instance->w2c_memory, (u64)(w2c_i0) + 1062656, w2c_j1);
+  w2c_Bfunc:;
+  FUNC_EPILOGUE;
+}
+
+static void w2c_leave(Z_dine_ffi_instance_t* instance, u64 w2c_p0) {
+  FUNC_PROLOGUE;
+  u64 w2c_j0, w2c_j1;
+  w2c_j0 = w2c_p0;
+  w2c_j1 = 16ull;
+  w2c_j0 -= w2c_j1;
+  w2c_f125(instance, w2c_j0);
+  FUNC_EPILOGUE;
+}
+
+static void w2c_f127(Z_dine_ffi_instance_t* instance, u64 w2c_p0, u64 w2c_p1, u64 w2c_p2, u64 w2c_p3) {
+  u32 w2c_l10 = 0;
+  u64 w2c_l4 = 0, w2c_l5 = 0, w2c_l6 = 0, w2c_l7 = 0, w2c_l8 = 0, w2c_l9 = 0;
+  FUNC_PROLOGUE;
+  u32 w2c_i0, w2c_i1, w2c_i2, w2c_i3;
+  u64 w2c_j0, w2c_j1, w2c_j2, w2c_j3;
+  w2c_j0 = w2c_p3;
+  w2c_j1 = 4294901760ull;
+  w2c_i0 = w2c_j0 > w2c_j1;
+  if (w2c_i0) {goto w2c_B0;}
+  w2c_j0 = w2c_p1;
+  w2c_j1 = 16ull;
+  w2c_j0 -= w2c_j1;
+  w2c_l5 = w2c_j0;
+  w2c_i0 = (u32)(w2c_j0);
+  w2c_j0 = i64_load(&instance->w2c_memory, (u64)(w2c_i0));
+  w2c_j1 = 18446744073709551614ull;
+  w2c_j0 &= w2c_j1;
+  w2c_l7 = w2c_j0;
+  w2c_j1 = 32ull;
+  w2c_j2 = w2c_p3;
+  w2c_j3 = 31ull;
+  w2c_j2 += w2c_j3;
+  w2c_j3 = 8589934576ull;
+  w2c_j2 &= w2c_j3;
+  w2c_j3 = w2c_p3;
+  w2c_i3 = !(w2c_j3);
+  w2c_j1 = w2c_i3 ? w2c_j1 : w2c_j2;
+  w2c_l4 = w2c_j1;
+  w2c_i0 = w2c_j0 >= w2c_j1;
+  if (w2c_i0) {
+    w2c_j0 = 1ull;
+    w2c_l6 = w2c_j0;
+    w2c_j0 = w2c_l7;
+    w2c_j1 = w2c_l4;
+    w2c_j0 -= w2c_j1;
+    w2c_p3 = w2c_j0;
+    w2c_j1 = 32ull;
+    w2c_i0 = w2c_j0 < w2c_j1;
+    if (w2c_i0) {
+      w2c_j0 = w2c_p1;
+      w2c_l4 = w2c_j0;
+      goto w2c_B0;
+    }
+    w2c_j0 = w2c_l5;
+    w2c_i0 = (u32)(w2c_j0);
+    w2c_j1 = w2c_l4;
+    i64_store(&instance->w2c_memory, (u64)(w2c_i0), w2c_j1);
+    w2c_j0 = w2c_l5;
+    w2c_j1 = w2c_l4;
+    w2c_j2 = 4294967280ull;
+    w2c_j1 &= w2c_j2;
+    w2c_j0 += w2c_j1;
+    w2c_l5 = w2c_j0;
+    w2c_i0 = (u32)(w2c_j0);
+    w2c_j1 = w2c_l4;
+    i64_store(&instance->w2c_memory, (u64)(w2c_i0) + 8, w2c_j1);
+    w2c_j0 = w2c_l5;
+    w2c_i0 = (u32)(w2c_j0);
+    w2c_j1 = w2c_p3;
+    i64_store(&instance->w2c_memory, (u64)(w2c_i0), w2c_j1);
+    w2c_j0 = w2c_p3;
+    w2c_j1 = w2c_l5;
+    w2c_j0 += w2c_j1;
+    w2c_l4 = w2c_j0;
+    w2c_i1 = 1062696u;
+    w2c_j1 = i64_load(&instance->w2c_memory, (u64)(w2c_i1));
+    w2c_i0 = w2c_j0 == w2c_j1;
+    if (w2c_i0) {
+      w2c_i0 = 1062704u;
+      w2c_j1 = w2c_p3;
+      i64_store(&instance->w2c_memory, (u64)(w2c_i0), w2c_j1);
+      goto w2c_B3;
+    }
+    w2c_j0 = w2c_l4;
+    w2c_i0 = (u32)(w2c_j0);
+    w2c_j1 = w2c_p3;
+    i64_store(&instance->w2c_memory, (u64)(w2c_i0) + 8, w2c_j1);
+    w2c_B3:;
+    w2c_j0 = w2c_l5;
+    w2c_f125(instance, w2c_j0);
+    w2c_j0 = w2c_p1;
+    w2c_l4 = w2c_j0;
+    goto w2c_B0;
+  }
+  w2c_i0 = 1062696u;
+  w2c_j0 = i64_load(&instance->w2c_memory, (u64)(w2c_i0));
+  w2c_l9 = w2c_j0;
+  w2c_j1 = w2c_l5;
+  w2c_j2 = w2c_l7;
+  w2c_j1 += w2c_j2;
+  w2c_l6 = w2c_j1;
+  w2c_i0 = w2c_j0 == w2c_j1;
+  if (w2c_i0) {
+    w2c_j0 = w2c_l4;
+    w2c_j1 = w2c_l5;
+    w2c_j0 += w2c_j1;
+    w2c_l6 = w2c_j0;
+    w2c_j1 = 4294901760ull;
+    w2c_i0 = w2c_j0 > w2c_j1;
+    if (w2c_i0) {goto w2c_B5;}
+    w2c_i0 = instance->w2c_memory.pages;
+    w2c_j0 = (u64)(w2c_i0);
+    w2c_j1 = 16ull;
+    w2c_j0 <<= (w2c_j1 & 63);
+    w2c_l7 = w2c_j0;
+    w2c_j1 = w2c_l6;
+    w2c_i0 = w2c_j0 < w2c_j1;
+    if (w2c_i0) {
+      w2c_j0 = w2c_l6;
+      w2c_j1 = w2c_l7;
+      w2c_j0 -= w2c_j1;
+      w2c_j1 = 65535ull;
+      w2c_j0 += w2c_j1;
+      w2c_j1 = 16ull;
+      w2c_j0 >>= (w2c_j1 & 63);
+      w2c_i0 = (u32)(w2c_j0);
+      w2c_i0 = wasm_rt_grow_memory(&instance->w2c_memory, w2c_i0);
+    }
+    w2c_j0 = w2c_l6;
+    w2c_i1 = instance->w2c_memory.pages;
+    w2c_j1 = (u64)(w2c_i1);
+    w2c_j2 = 16ull;
+    w2c_j1 <<= (w2c_j2 & 63);
+    w2c_i0 = w2c_j0 > w2c_j1;
+    if (w2c_i0) {goto w2c_B5;}
+    w2c_j0 = w2c_l5;
+    w2c_i0 = (u32)(w2c_j0);
+    w2c_j1 = w2c_l4;
+    i64_store(&instance->w2c_memory, (u64)(w2c_i0), w2c_j1);
+    w2c_i0 = 1062696u;
+    w2c_j1 = w2c_l6;
+    i64_store(&instance->w2c_memory, (u64)(w2c_i0), w2c_j1);
+    w2c_i0 = 1062704u;
+    w2c_j1 = w2c_l4;
+    i64_store(&instance->w2c_memory, (u64)(w2c_i0), w2c_j1);
+    w2c_j0 = 1ull;
+    w2c_l6 = w2c_j0;
+    w2c_j0 = w2c_p1;
+    w2c_l4 = w2c_j0;
+    goto w2c_B0;
+  }
+  w2c_j0 = w2c_l6;
+  w2c_i0 = (u32)(w2c_j0);
+  w2c_j0 = i64_load(&instance->w2c_memory, (u64)(w2c_i0));
+  w2c_l8 = w2c_j0;
+  w2c_j1 = 1ull;
+  w2c_j0 &= w2c_j1;
+  w2c_i0 = !(w2c_j0);
+  if (w2c_i0) {goto w2c_B5;}
+  w2c_j0 = w2c_l7;
+  w2c_j1 = w2c_l8;
+  w2c_j2 = 18446744073709551614ull;
+  w2c_j1 &= w2c_j2;
+  w2c_l7 = w2c_j1;
+  w2c_j0 += w2c_j1;
+  w2c_j1 = w2c_l4;
+  w2c_i0 = w2c_j0 < w2c_j1;
+  if (w2c_i0) {goto w2c_B5;}
+  w2c_j0 = w2c_l8;
+  w2c_j1 = 511ull;
+  w2c_i0 = w2c_j0 <= w2c_j1;
+  if (w2c_i0) {
+    w2c_j0 = w2c_l8;
+    w2c_j1 = 4ull;
+    w2c_j0 >>= (w2c_j1 & 63);
+    w2c_i0 = (u32)(w2c_j0);
+  } else {
+    w2c_j0 = w2c_l7;
+    w2c_j1 = 60ull;
+    w2c_j2 = w2c_l7;
+    w2c_j2 = I64_CLZ(w2c_j2);
+    w2c_p3 = w2c_j2;
+    w2c_j1 -= w2c_j2;
+    w2c_j0 >>= (w2c_j1 & 63);
+    w2c_i0 = (u32)(w2c_j0);
+    w2c_i1 = 7u;
+    w2c_i0 &= w2c_i1;
+    w2c_j1 = w2c_p3;
+    w2c_i1 = (u32)(w2c_j1);
+    w2c_i2 = 3u;
+    w2c_i1 <<= (w2c_i2 & 31);
+    w2c_i0 -= w2c_i1;
+    w2c_i1 = 464u;
+    w2c_i0 += w2c_i1;
+  }
+  w2c_l10 = w2c_i0;
+  w2c_j0 = w2c_l6;
+  w2c_i0 = (u32)(w2c_j0);
+  w2c_j1 = w2c_l7;
+  i64_store(&instance->w2c_memory, (u64)(w2c_i0), w2c_j1);
+  w2c_j0 = w2c_l6;
+  w2c_i0 = (u32)(w2c_j0);
+  w2c_j0 = i64_load(&instance->w2c_memory, (u64)(w2c_i0) + 24u);
+  w2c_p2 = w2c_j0;
+  w2c_j0 = w2c_l6;
+  w2c_i0 = (u32)(w2c_j0);
+  w2c_j0 = i64_load(&instance->w2c_memory, (u64)(w2c_i0) + 16u);
+  w2c_p3 = w2c_j0;
+  w2c_i0 = !(w2c_j0);
+  w2c_i0 = !(w2c_i0);
+  if (w2c_i0) {
+    w2c_j0 = w2c_p3;
+    w2c_i0 = (u32)(w2c_j0);
+    w2c_j1 = w2c_p2;
+    i64_store(&instance->w2c_memory, (u64)(w2c_i0) + 24, w2c_j1);
+  }
+  w2c_j0 = w2c_p2;
+  w2c_i0 = !(w2c_j0);
+  w2c_i0 = !(w2c_i0);
+  if (w2c_i0) {
+    w2c_j0 = w2c_p2;
+    w2c_i0 = (u32)(w2c_j0);
+    w2c_j1 = w2c_p3;
+    i64_store(&instance->w2c_memory, (u64)(w2c_i0) + 16, w2c_j1);
+    w2c_i0 = w2c_l10;
+    w2c_j0 = (u64)(w2c_i0);
+    w2c_j1 = 3ull;
+    w2c_j0 <<= (w2c_j1 & 63);
+    w2c_i0 = (u32)(w2c_j0);
+    w2c_j0 = i64_load(&instance->w2c_memory, (u64)(w2c_i0) + 1060608u);
+    w2c_p3 = w2c_j0;
+    goto w2c_B10;
+  }
+  w2c_i0 = w2c_l10;
+  w2c_j0 = (u64)(w2c_i0);
+  w2c_j1 = 3ull;
+  w2c_j0 <<= (w2c_j1 & 63);
+  w2c_i0 = (u32)(w2c_j0);
+  w2c_j1 = w2c_p3;
+  i64_store(&instance->w2c_memory, (u64)(w2c_i0) + 1060608, w2c_j1);
+  w2c_B10:;
+  w2c_j0 = w2c_p3;
+  w2c_i0 = !(w2c_j0);
+  if (w2c_i0) {
+    w2c_i0 = w2c_l10;
+    w2c_i1 = 6u;
+    w2c_i0 >>= (w2c_i1 & 31);
+    w2c_j0 = (u64)(w2c_i0);
+    w2c_j1 = 3ull;
+    w2c_j0 <<= (w2c_j1 & 63);
+    w2c_p3 = w2c_j0;
+    w2c_i0 = (u32)(w2c_j0);
+    w2c_j1 = w2c_p3;
+    w2c_i1 = (u32)(w2c_j1);
+    w2c_j1 = i64_load(&instance->w2c_memory, (u64)(w2c_i1) + 1062656u);
+    w2c_j2 = 18446744073709551614ull;
+    w2c_i3 = w2c_l10;
+    w2c_j3 = (u64)(w2c_i3);
+    w2c_j2 = I64_ROTL(w2c_j2, w2c_j3);
+    w2c_j1 &= w2c_j2;
+    i64_store(&instance->w2c_memory, (u64)(w2c_i0) + 1062656, w2c_j1);
+  }
+  w2c_j0 = w2c_l5;
+  w2c_i0 = (u32)(w2c_j0);
+  w2c_j1 = w2c_l5;
+  w2c_i1 = (u32)(w2c_j1);
+  w2c_j1 = i64_load(&instance->w2c_memory, (u64)(w2c_i1));
+  w2c_j2 = w2c_l7;
+  w2c_j1 += w2c_j2;
+  w2c_p3 = w2c_j1;
+  i64_store(&instance->w2c_memory, (u64)(w2c_i0), w2c_j1);
+  w2c_j0 = w2c_l5;
+  w2c_j1 = w2c_p3;
+  w2c_j2 = 18446744073709551614ull;
+  w2c_j1 &= w2c_j2;
+  w2c_p3 = w2c_j1;
+  w2c_j0 += w2c_j1;
+  w2c_l6 = w2c_j0;
+  w2c_j1 = w2c_l9;
+  w2c_i0 = w2c_j0 == w2c_j1;
+  if (w2c_i0) {
+    w2c_i0 = 1062704u;
+    w2c_j1 = w2c_p3;
+    i64_store(&instance->w2c_memory, (u64)(w2c_i0), w2c_j1);
+    goto w2c_B13;
+  }
+  w2c_j0 = w2c_l6;
+  w2c_i0 = (u32)(w2c_j0);
+  w2c_j1 = w2c_p3;
+  i64_store(&instance->w2c_memory, (u64)(w2c_i0) + 8, w2c_j1);
+  w2c_B13:;
+  w2c_j0 = 1ull;
+  w2c_l6 = w2c_j0;
+  w2c_j0 = w2c_p3;
+  w2c_j1 = w2c_l4;
+  w2c_j0 -= w2c_j1;
+  w2c_p3 = w2c_j0;
+  w2c_j1 = 32ull;
+  w2c_i0 = w2c_j0 < w2c_j1;
+  if (w2c_i0) {
+    w2c_j0 = w2c_p1;
+    w2c_l4 = w2c_j0;
+    goto w2c_B0;
+  }
+  w2c_j0 = w2c_l5;
+  w2c_i0 = (u32)(w2c_j0);
+  w2c_j1 = w2c_l4;
+  i64_store(&instance->w2c_memory, (u64)(w2c_i0), w2c_j1);
+  w2c_j0 = w2c_l5;
+  w2c_j1 = w2c_l4;
+  w2c_j2 = 4294967280ull;
+  w2c_j1 &= w2c_j2;
+  w2c_j0 += w2c_j1;
+  w2c_l5 = w2c_j0;
+  w2c_i0 = (u32)(w2c_j0);
+  w2c_j1 = w2c_l4;
+  i64_store(&instance->w2c_memory, (u64)(w2c_i0) + 8, w2c_j1);
+  w2c_j0 = w2c_l5;
+  w2c_i0 = (u32)(w2c_j0);
+  w2c_j1 = w2c_p3;
+  i64_store(&instance->w2c_memory, (u64)(w2c_i0), w2c_j1);
+  w2c_j0 = w2c_p3;
+  w2c_j1 = w2c_l5;
+  w2c_j0 += w2c_j1;
+  w2c_l4 = w2c_j0;
+  w2c_j1 = w2c_l9;
+  w2c_i0 = w2c_j0 == w2c_j1;
+  if (w2c_i0) {
+    w2c_i0 = 1062704u;
+    w2c_j1 = w2c_p3;
+    i64_store(&instance->w2c_memory, (u64)(w2c_i0), w2c_j1);
+    goto w2c_B16;
+  }
+  w2c_j0 = w2c_l4;
+  w2c_i0 = (u32)(w2c_j0);
+  w2c_j1 = w2c_p3;
+  i64_store(&instance->w2c_memory, (u64)(w2c_i0) + 8, w2c_j1);
+  w2c_B16:;
+  w2c_j0 = w2c_l5;
+  w2c_f125(instance, w2c_j0);
+  w2c_j0 = w2c_p1;
+  w2c_l4 = w2c_j0;
+  goto w2c_B0;
+  w2c_B5:;
+  w2c_j0 = w2c_p3;
+  w2c_j0 = w2c_f124(instance, w2c_j0);
+  w2c_l4 = w2c_j0;
+  w2c_i0 = !(w2c_j0);
+  w2c_i0 = !(w2c_i0);
+  if (w2c_i0) {
+    w2c_j0 = w2c_p2;
+    w2c_i0 = !(w2c_j0);
+    w2c_i0 = !(w2c_i0);
+    if (w2c_i0) {
+      w2c_j0 = w2c_l4;
+      w2c_i0 = (u32)(w2c_j0);
+      w2c_j1 = w2c_p1;
+      w2c_i1 = (u32)(w2c_j1);
+      w2c_j2 = w2c_p2;
+      w2c_i2 = (u32)(w2c_j2);
+      memory_copy(&instance->w2c_memory, &instance->w2c_memory, w2c_i0, w2c_i1, w2c_i2);
+    }
+    w2c_j0 = w2c_l5;
+    w2c_f125(instance, w2c_j0);
+  }
+  w2c_j0 = w2c_l4;
+  w2c_j1 = 0ull;
+  w2c_i0 = w2c_j0 != w2c_j1;
+  w2c_j0 = (u64)(w2c_i0);
+  w2c_l6 = w2c_j0;
+  w2c_B0:;
+  w2c_j0 = w2c_p0;
+  w2c_i0 = (u32)(w2c_j0);
+  w2c_j1 = w2c_l4;
+  i64_store(&instance->w2c_memory, (u64)(w2c_i0) + 8, w2c_j1);
+  w2c_j0 = w2c_p0;
+  w2c_i0 = (u32)(w2c_j0);
+  w2c_j1 = w2c_l6;
+  i64_store(&instance->w2c_memory, (u64)(w2c_i0), w2c_j1);
+  FUNC_EPILOGUE;
+}
+
+static u64 w2c_room(Z_dine_ffi_instance_t* instance, u64 w2c_p0) {
+  FUNC_PROLOGUE;
+  u64 w2c_j0;
+  w2c_j0 = w2c_p0;
+  w2c_j0 = w2c_f124(instance, w2c_j0);
+  FUNC_EPILOGUE;
+  return w2c_j0;
+}
+
+static void w2c_reset(Z_dine_ffi_instance_t* instance) {
+  u64 w2c_l0 = 0;
+  FUNC_PROLOGUE;
+  u32 w2c_i0, w2c_i1;
+  u64 w2c_j0, w2c_j1;
+  w2c_j0 = 18446744073709549568ull;
+  w2c_l0 = w2c_j0;
+  w2c_L0: 
+    w2c_j0 = w2c_l0;
+    w2c_j1 = 1062712ull;
+    w2c_j0 += w2c_j1;
+    w2c_i0 = (u32)(w2c_j0);
+    w2c_j1 = 0ull;
+    i64_store(&instance->w2c_memory, (u64)(w2c_i0), w2c_j1);
+    w2c_j0 = w2c_l0;
+    w2c_j1 = 1062704ull;
+    w2c_j0 += w2c_j1;
+    w2c_i0 = (u32)(w2c_j0);
+    w2c_j1 = 0ull;
+    i64_store(&instance->w2c_memory, (u64)(w2c_i0), w2c_j1);
+    w2c_j0 = w2c_l0;
+    w2c_j1 = 1062696ull;
+    w2c_j0 += w2c_j1;
+    w2c_i0 = (u32)(w2c_j0);
+    w2c_j1 = 0ull;
+    i64_store(&instance->w2c_memory, (u64)(w2c_i0), w2c_j1);
+    w2c_j0 = w2c_l0;
+    w2c_j1 = 1062688ull;
+    w2c_j0 += w2c_j1;
+    w2c_i0 = (u32)(w2c_j0);
+    w2c_j1 = 0ull;
+    i64_store(&instance->w2c_memory, (u64)(w2c_i0), w2c_j1);
+    w2c_j0 = w2c_l0;
+    w2c_j1 = 1062680ull;
+    w2c_j0 += w2c_j1;
+    w2c_i0 = (u32)(w2c_j0);
+    w2c_j1 = 0ull;
+    i64_store(&instance->w2c_memory, (u64)(w2c_i0), w2c_j1);
+    w2c_j0 = w2c_l0;
+    w2c_j1 = 1062672ull;
+    w2c_j0 += w2c_j1;
+    w2c_i0 = (u32)(w2c_j0);
+    w2c_j1 = 0ull;
+    i64_store(&instance->w2c_memory, (u64)(w2c_i0), w2c_j1);
+    w2c_j0 = w2c_l0;
+    w2c_j1 = 1062664ull;
+    w2c_j0 += w2c_j1;
+    w2c_i0 = (u32)(w2c_j0);
+    w2c_j1 = 0ull;
+    i64_store(&instance->w2c_memory, (u64)(w2c_i0), w2c_j1);
+    w2c_j0 = w2c_l0;
+    w2c_j1 = 1062656ull;
+    w2c_j0 += w2c_j1;
+    w2c_i0 = (u32)(w2c_j0);
+    w2c_j1 = 0ull;
+    i64_store(&instance->w2c_memory, (u64)(w2c_i0), w2c_j1);
+    w2c_j0 = w2c_l0;
+    w2c_j1 = 18446744073709551552ull;
+    w2c_j0 -= w2c_j1;
+    w2c_l0 = w2c_j0;
+    w2c_j1 = 0ull;
+    w2c_i0 = w2c_j0 != w2c_j1;
+    if (w2c_i0) {goto w2c_L0;}
+  w2c_i0 = 1062696u;
+  w2c_i1 = 1062688u;
+  w2c_j1 = i64_load(&instance->w2c_memory, (u64)(w2c_i1));
+  i64_store(&instance->w2c_memory, (u64)(w2c_i0), w2c_j1);
+  w2c_i0 = 1062680u;
   w2c_j1 = 0ull;
   i64_store(&instance->w2c_memory, (u64)(w2c_i0), w2c_j1);
-  w2c_i0 = 1060856u;
+  w2c_i0 = 1062672u;
   w2c_j1 = 0ull;
   i64_store(&instance->w2c_memory, (u64)(w2c_i0), w2c_j1);
-  w2c_i0 = 1060848u;
+  w2c_i0 = 1062664u;
   w2c_j1 = 0ull;
   i64_store(&instance->w2c_memory, (u64)(w2c_i0), w2c_j1);
-  w2c_i0 = 1060840u;
+  w2c_i0 = 1062656u;
   w2c_j1 = 0ull;
   i64_store(&instance->w2c_memory, (u64)(w2c_i0), w2c_j1);
-  w2c_i0 = 1060832u;
-  w2c_j1 = 0ull;
-  i64_store(&instance->w2c_memory, (u64)(w2c_i0), w2c_j1);
-  w2c_i0 = 1060824u;
-  w2c_j1 = 0ull;
-  i64_store(&instance->w2c_memory, (u64)(w2c_i0), w2c_j1);
-  w2c_i0 = 1060816u;
-  w2c_j1 = 0ull;
-  i64_store(&instance->w2c_memory, (u64)(w2c_i0), w2c_j1);
-  w2c_i0 = 1060808u;
-  w2c_j1 = 0ull;
-  i64_store(&instance->w2c_memory, (u64)(w2c_i0), w2c_j1);
-  w2c_i0 = 1060800u;
-  w2c_j1 = 0ull;
-  i64_store(&instance->w2c_memory, (u64)(w2c_i0), w2c_j1);
-  w2c_i0 = 1060792u;
-  w2c_j1 = 0ull;
-  i64_store(&instance->w2c_memory, (u64)(w2c_i0), w2c_j1);
-  w2c_i0 = 1060784u;
-  w2c_j1 = 0ull;
-  i64_store(&instance->w2c_memory, (u64)(w2c_i0), w2c_j1);
-  w2c_i0 = 1060776u;
-  w2c_j1 = 0ull;
-  i64_store(&instance->w2c_memory, (u64)(w2c_i0), w2c_j1);
-  w2c_i0 = 1060768u;
-  w2c_j1 = 0ull;
-  i64_store(&instance->w2c_memory, (u64)(w2c_i0), w2c_j1);
-  w2c_i0 = 1060760u;
-  w2c_j1 = 0ull;
-  i64_store(&instance->w2c_memory, (u64)(w2c_i0), w2c_j1);
-  w2c_i0 = 1060752u;
-  w2c_j1 = 0ull;
-  i64_store(&instance->w2c_memory, (u64)(w2c_i0), w2c_j1);
-  w2c_i0 = 1060744u;
-  w2c_j1 = 0ull;
-  i64_store(&instance->w2c_memory, (u64)(w2c_i0), w2c_j1);
-  w2c_i0 = 1060736u;
-  w2c_j1 = 0ull;
-  i64_store(&instance->w2c_memory, (u64)(w2c_i0), w2c_j1);
-  w2c_i0 = 1060728u;
-  w2c_j1 = 0ull;
-  i64_store(&instance->w2c_memory, (u64)(w2c_i0), w2c_j1);
-  w2c_i0 = 1060720u;
-  w2c_j1 = 0ull;
-  i64_store(&instance->w2c_memory, (u64)(w2c_i0), w2c_j1);
-  w2c_i0 = 1060712u;
-  w2c_j1 = 0ull;
-  i64_store(&instance->w2c_memory, (u64)(w2c_i0), w2c_j1);
-  w2c_i0 = 1060704u;
-  w2c_j1 = 0ull;
-  i64_store(&instance->w2c_memory, (u64)(w2c_i0), w2c_j1);
-  w2c_i0 = 1060696u;
-  w2c_j1 = 0ull;
-  i64_store(&instance->w2c_memory, (u64)(w2c_i0), w2c_j1);
-  w2c_i0 = 1060688u;
-  w2c_j1 = 0ull;
-  i64_store(&instance->w2c_memory, (u64)(w2c_i0), w2c_j1);
-  w2c_i0 = 1060680u;
-  w2c_j1 = 0ull;
-  i64_store(&instance->w2c_memory, (u64)(w2c_i0), w2c_j1);
-  w2c_i0 = 1060672u;
-  w2c_j1 = 0ull;
-  i64_store(&instance->w2c_memory, (u64)(w2c_i0), w2c_j1);
-  w2c_i0 = 1060664u;
-  w2c_j1 = 0ull;
-  i64_store(&instance->w2c_memory, (u64)(w2c_i0), w2c_j1);
-  w2c_i0 = 1060656u;
-  w2c_j1 = 0ull;
-  i64_store(&instance->w2c_memory, (u64)(w2c_i0), w2c_j1);
-  w2c_i0 = 1060648u;
-  w2c_j1 = 0ull;
-  i64_store(&instance->w2c_memory, (u64)(w2c_i0), w2c_j1);
-  w2c_i0 = 1060640u;
-  w2c_j1 = 0ull;
-  i64_store(&instance->w2c_memory, (u64)(w2c_i0), w2c_j1);
-  w2c_i0 = 1060632u;
-  w2c_j1 = 0ull;
-  i64_store(&instance->w2c_memory, (u64)(w2c_i0), w2c_j1);
-  w2c_i0 = 1060624u;
-  w2c_j1 = 0ull;
-  i64_store(&instance->w2c_memory, (u64)(w2c_i0), w2c_j1);
-  w2c_i0 = 1060616u;
-  w2c_j1 = 0ull;
-  i64_store(&instance->w2c_memory, (u64)(w2c_i0), w2c_j1);
-  w2c_i0 = 1060608u;
-  w2c_j1 = 0ull;
-  i64_store(&instance->w2c_memory, (u64)(w2c_i0), w2c_j1);
-  w2c_i0 = 1060872u;
+  w2c_i0 = 1062704u;
   w2c_j1 = 0ull;
   i64_store(&instance->w2c_memory, (u64)(w2c_i0), w2c_j1);
   FUNC_EPILOGUE;
 }
 
-static void w2c_f126(Z_dine_ffi_instance_t* instance, u64 w2c_p0, u64 w2c_p1, u64 w2c_p2, u64 w2c_p3) {
+static void w2c_f130(Z_dine_ffi_instance_t* instance, u64 w2c_p0, u64 w2c_p1, u64 w2c_p2, u64 w2c_p3) {
   u64 w2c_l4 = 0, w2c_l5 = 0;
   FUNC_PROLOGUE;
   u32 w2c_i0;
@@ -87550,7 +89238,7 @@ static void w2c_f126(Z_dine_ffi_instance_t* instance, u64 w2c_p0, u64 w2c_p1, u6
   FUNC_EPILOGUE;
 }
 
-static void w2c_f127(Z_dine_ffi_instance_t* instance, u64 w2c_p0, u64 w2c_p1, u64 w2c_p2, u32 w2c_p3) {
+static void w2c_f131(Z_dine_ffi_instance_t* instance, u64 w2c_p0, u64 w2c_p1, u64 w2c_p2, u32 w2c_p3) {
   u64 w2c_l4 = 0, w2c_l5 = 0;
   FUNC_PROLOGUE;
   u32 w2c_i0, w2c_i1, w2c_i2, w2c_i3;
@@ -87647,6 +89335,11 @@ u64 Z_dine_ffiZ_dine_raw_plan_sites(Z_dine_ffi_instance_t* instance, u64 w2c_p0)
 /* export: 'dine_raw_plan_version' */
 u64 Z_dine_ffiZ_dine_raw_plan_version(Z_dine_ffi_instance_t* instance, u64 w2c_p0) {
   return w2c_dine_raw_plan_version(instance, w2c_p0);
+}
+
+/* export: 'dine_raw_site_act' */
+u64 Z_dine_ffiZ_dine_raw_site_act(Z_dine_ffi_instance_t* instance, u64 w2c_p0, u64 w2c_p1, u64 w2c_p2, u64 w2c_p3) {
+  return w2c_dine_raw_site_act(instance, w2c_p0, w2c_p1, w2c_p2, w2c_p3);
 }
 
 /* export: 'dine_raw_site_ask' */

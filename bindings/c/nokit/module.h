@@ -61,6 +61,9 @@ u64 Z_dine_ffiZ_dine_raw_plan_sites(Z_dine_ffi_instance_t*, u64);
 /* export: 'dine_raw_plan_version' */
 u64 Z_dine_ffiZ_dine_raw_plan_version(Z_dine_ffi_instance_t*, u64);
 
+/* export: 'dine_raw_site_act' */
+u64 Z_dine_ffiZ_dine_raw_site_act(Z_dine_ffi_instance_t*, u64, u64, u64, u64);
+
 /* export: 'dine_raw_site_ask' */
 u64 Z_dine_ffiZ_dine_raw_site_ask(Z_dine_ffi_instance_t*, u64, u32, u64, u64);
 

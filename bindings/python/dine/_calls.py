@@ -1,5 +1,8 @@
 """Written by tools/bindings from the exports of crates/dine_ffi: the calls of dine.h, for ctypes."""
-from ctypes import POINTER, Structure, c_bool, c_int64, c_size_t, c_uint8, c_uint32, c_void_p
+from __future__ import annotations
+
+from ctypes import CDLL, POINTER, Structure, c_bool, c_int64, c_size_t, c_uint8, c_uint32, c_void_p
+from typing import Any
 
 
 class Handle(Structure):
@@ -10,24 +13,24 @@ class Number(c_uint32):
     """A number of a site, an edge, a place or an event. One of more than 32 bits becomes 2**32 - 1, which is none."""
 
     @classmethod
-    def from_param(cls, number):
+    def from_param(cls, number: int) -> Any:
         return c_uint32(number if 0 <= number < 2**32 else 2**32 - 1)
 
 
 class Event(Structure):
-    _fields_ = [("site", c_uint32), ("kind", c_uint32), ("place", c_uint32)]
+    _fields_ = [(it, c_uint32) for it in ("site", "kind", "place")]
 
 
 class Ends(Structure):
-    _fields_ = [("lower", c_uint32), ("higher", c_uint32)]
+    _fields_ = [(it, c_uint32) for it in ("lower", "higher")]
 
 
 class SiteState(Structure):
-    _fields_ = [("phase", c_uint32), ("ate", c_uint32), ("degree", c_uint32), ("finished", c_uint32)]
+    _fields_ = [(it, c_uint32) for it in ("phase", "ate", "degree", "finished")]
 
 
 class Place(Structure):
-    _fields_ = [("edge", c_uint32), ("neighbour", c_uint32), ("has_fork", c_uint32), ("has_token", c_uint32)]
+    _fields_ = [(it, c_uint32) for it in ("edge", "neighbour", "has_fork", "has_token", "is_dirty")]
 
 
 CALLS = {
@@ -51,6 +54,7 @@ CALLS = {
     "dine_site_done": [POINTER(Handle), Number, POINTER(c_uint8), c_size_t],
     "dine_site_shut": [POINTER(Handle), Number, POINTER(c_uint8), c_size_t],
     "dine_site_break": [POINTER(Handle), Number, POINTER(c_uint8), c_size_t],
+    "dine_site_act": [POINTER(Handle), POINTER(Event), POINTER(c_uint8), c_size_t],
     "dine_site_take": [POINTER(Handle), POINTER(c_uint8), c_size_t],
     "dine_site_begin": [POINTER(Handle)],
     "dine_site_end": [POINTER(Handle), c_bool],
@@ -70,7 +74,7 @@ CALLS = {
 }
 
 
-def declare(library):
+def declare(library: CDLL) -> None:
     """Declares the calls of the library."""
     for name, kinds in CALLS.items():
         call = getattr(library, name)

@@ -1,20 +1,28 @@
-//! Four accounts in a ring. Each pays its next neighbour fifty times, and the sum stays.
+//! Four accounts in a ring, and a sum of money between each two neighbours. Any thread pays, at any time.
 use dine::Table;
 
 fn main() -> Result<(), dine::Error> {
     let mut table = Table::new();
-    let accounts: Vec<_> = ["ann", "bob", "cid", "dan"].iter().map(|name| table.worker(name, 50)).collect();
-    let mut edges = Vec::new();
-    for i in 0..4 {
-        edges.push(table.edge(accounts[i], accounts[(i + 1) % 4], 100));
+    let (ann, bob) = (table.worker("ann")?, table.worker("bob")?);
+    let (cid, dan) = (table.worker("cid")?, table.worker("dan")?);
+    for (one, other) in [(ann, bob), (bob, cid), (cid, dan), (dan, ann)] {
+        table.edge(one, other, 100)?;
     }
-    let done = table.run(&(), |meal| {
-        let next = accounts[(meal.worker().number() as usize + 1) % 4];
-        let money = meal.with(next).ok_or("no neighbour")?;
-        *money += 1;
-        Ok::<i64, &str>(*money)
-    })?;
-    let sum: i64 = edges.iter().map(|edge| done.value(*edge)).sum();
-    println!("ann ate {} times, the sum is {sum}", done.results(accounts[0]).len());
+    let open = table.open()?;
+    std::thread::scope(|scope| {
+        for _ in 0..8 {
+            scope.spawn(|| -> Result<(), dine::Error> {
+                for _ in 0..1000 {
+                    open.eat(bob, |meal| {
+                        let (from, to) = meal.both(ann, cid).expect("both are neighbours of bob");
+                        (*from, *to) = (*from - 1, *to + 1);
+                    })?;
+                }
+                Ok(())
+            });
+        }
+    });
+    let closed = open.close()?;
+    println!("bob ate {} times, the sum is {}", closed.ate(bob), closed.into_values().iter().sum::<i32>());
     Ok(())
 }

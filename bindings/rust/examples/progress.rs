@@ -6,12 +6,12 @@ struct Progress(AtomicU32);
 
 impl dine::Watch for Progress {
     // `waited` is how long the worker waited for its forks.
-    fn begins(&self, worker: &str, k: u32, waited: Duration) {
+    fn begins(&self, worker: &str, k: u64, waited: Duration) {
         eprintln!("{worker} begins meal {k} after {waited:?}");
     }
 
     // `ok` says whether the job returned `Ok`, and `took` how long it took.
-    fn ends(&self, _worker: &str, _k: u32, _ok: bool, _took: Duration) {
+    fn ends(&self, _worker: &str, _k: u64, _ok: bool, _took: Duration) {
         self.0.fetch_add(1, Ordering::Relaxed);
     }
 }
@@ -19,9 +19,9 @@ impl dine::Watch for Progress {
 fn main() -> Result<(), dine::Error> {
     let (progress, stop) = (Progress(AtomicU32::new(0)), std::sync::atomic::AtomicBool::new(false));
     let mut table = dine::Table::new();
-    let workers = ["ann", "bob", "cid"].map(|name| table.worker(name, 1_000));
+    let workers = [table.worker("ann")?, table.worker("bob")?, table.worker("cid")?];
     for i in 0..3 {
-        table.edge(workers[i], workers[(i + 1) % 3], 0u64);
+        table.edge(workers[i], workers[(i + 1) % 3], 0u64)?;
     }
     let done = std::thread::scope(|scope| {
         scope.spawn(|| {
@@ -35,7 +35,7 @@ fn main() -> Result<(), dine::Error> {
     })?;
     println!("{} meals ended", progress.0.load(Ordering::Relaxed));
     for (name, worker) in ["ann", "bob", "cid"].iter().zip(workers) {
-        println!("{name} ate {} of 1000", done.results(worker).len());
+        println!("{name} ate {} times", done.results(worker).len());
     }
     Ok(())
 }

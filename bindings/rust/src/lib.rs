@@ -1,29 +1,38 @@
 //! The proved rules of Chandy and Misra's dining philosophers.
 //!
+//! - [`Table`] is a lock manager: workers share a value at each edge, and any thread eats for any worker.
 //! - [`World`] has all sites of a plan in one thread, and is stepped event by event.
 //! - [`Site`] is one site, whose letters are bytes: carry them to the neighbour, in order, by any means.
-//! - [`Table`] is a lock manager over threads: workers share a value at each edge.
 //!
 //! The library is linked as `libdine.a`, or compiled from C: see `docs/BINDINGS.md`. Its rules are proved; this crate
 //! is only tested.
+#![warn(missing_docs)]
 
 mod causes;
+mod open;
 mod run;
+// It declares all calls of dine.h, also those that nothing here needs.
+#[allow(dead_code)]
 mod sys;
-pub mod table;
+mod table;
 
 /// No letter has more bytes.
 pub const LETTER_MAX: usize = 21;
+
+// The first byte of a letter that is Close.
+const CLOSE: u8 = 4;
 
 use std::cell::UnsafeCell;
 use std::fmt;
 
 pub use causes::Cause;
-pub use run::{Done, EdgeId, Meal, Table, Watch, WorkerId};
-pub use table::Values;
+pub use open::{AsyncMeal, Closed, LockFuture, Meal, OpenTable, Stay};
+pub use run::{Done, Watch};
+pub use table::{EdgeId, Table, WorkerId};
 
 /// Why a call has no answer.
 #[derive(Clone, Copy, Debug, PartialEq, Eq)]
+#[non_exhaustive]
 pub enum Error {
     /// The rules do not allow the event now. Nothing changed.
     NotNow,
@@ -34,19 +43,53 @@ pub enum Error {
     /// The site eats.
     Eating,
     /// The bytes are no letter, for this reason.
-    NoLetter(i64),
+    NoLetter(LetterFault),
     /// The rules do not allow this letter now, for this reason.
-    Breach(u8),
+    Breach(Breach),
     /// The text is no plan, or the workers and edges of a table are none, for this reason.
     NoPlan(Refusal),
-    /// A worker is of another table.
+    /// A worker or an edge is of another table.
     OtherTable,
-    /// A neighbour is gone.
+    /// The table is closed.
+    Closed,
+    /// This thread eats at this table, and would wait for itself.
+    InMeal,
+    /// A job panicked while it had a value of this worker.
+    Poisoned,
+    /// The table is broken, since an allocation of the library failed.
     Gone,
-    /// The worker has meals left.
-    MealsLeft,
     /// Another answer, which should not come.
     Other(i64),
+}
+
+/// Why bytes are no letter.
+#[derive(Clone, Copy, Debug, PartialEq, Eq)]
+pub enum LetterFault {
+    /// There are too few bytes, or too many.
+    Length,
+    /// The first byte is no kind.
+    Kind,
+    /// The neighbour cannot have done that with the fork.
+    Unlawful,
+    /// The letter is of an edge that the site does not have.
+    Edge,
+}
+
+/// Why the rules do not allow a letter now.
+#[derive(Clone, Copy, Debug, PartialEq, Eq)]
+pub enum Breach {
+    /// The neighbour put Close before.
+    AfterClose,
+    /// A Request while the token is here or the neighbour has the fork.
+    RequestOutOfTurn,
+    /// A Fork that was not asked for.
+    ForkOutOfTurn,
+    /// A Fork whose log does not fit what is known of the neighbour.
+    StrangeFork,
+    /// A second Done.
+    DoneOutOfTurn,
+    /// A Close before both sites said Done.
+    ClosedEarly,
 }
 
 /// Why a text is no plan.
@@ -61,7 +104,9 @@ pub struct Refusal {
 /// A site or an edge of a text, by its number from 0.
 #[derive(Clone, Copy, Debug, PartialEq, Eq)]
 pub enum Position {
+    /// A site.
     Site(u32),
+    /// An edge.
     Edge(u32),
 }
 
@@ -99,12 +144,14 @@ impl fmt::Display for Error {
             Error::NoSuch => f.write_str("there is no such site, edge, place or event, or its fork is elsewhere"),
             Error::Memory => f.write_str("an allocation failed"),
             Error::Eating => f.write_str("the site eats"),
-            Error::NoLetter(n) => write!(f, "the bytes are no letter ({n})"),
-            Error::Breach(n) => write!(f, "the rules do not allow this letter now (breach {n})"),
+            Error::NoLetter(it) => write!(f, "the bytes are no letter: {it:?}"),
+            Error::Breach(it) => write!(f, "the rules do not allow this letter now: {it:?}"),
             Error::NoPlan(refusal) => write!(f, "no plan: {refusal}. {}", refusal.cause.words()),
-            Error::OtherTable => f.write_str("a worker is of another table"),
-            Error::Gone => f.write_str("a neighbour is gone"),
-            Error::MealsLeft => f.write_str("the worker has meals left"),
+            Error::OtherTable => f.write_str("a worker or an edge is of another table"),
+            Error::Closed => f.write_str("the table is closed"),
+            Error::InMeal => f.write_str("this thread eats at this table already"),
+            Error::Poisoned => f.write_str("a job panicked while it had a value of this worker"),
+            Error::Gone => f.write_str("the table is broken, since an allocation failed"),
             Error::Other(n) => write!(f, "status {n}"),
         }
     }
@@ -122,8 +169,16 @@ fn answer(status: i64) -> Result<u64> {
         -4 => Err(Error::NoSuch),
         -5 => Err(Error::Memory),
         -7 => Err(Error::Eating),
-        -14..=-11 => Err(Error::NoLetter(status)),
-        -26..=-21 => Err(Error::Breach((-20 - status) as u8)),
+        -11 => Err(Error::NoLetter(LetterFault::Length)),
+        -12 => Err(Error::NoLetter(LetterFault::Kind)),
+        -13 => Err(Error::NoLetter(LetterFault::Unlawful)),
+        -14 => Err(Error::NoLetter(LetterFault::Edge)),
+        -21 => Err(Error::Breach(Breach::AfterClose)),
+        -22 => Err(Error::Breach(Breach::RequestOutOfTurn)),
+        -23 => Err(Error::Breach(Breach::ForkOutOfTurn)),
+        -24 => Err(Error::Breach(Breach::StrangeFork)),
+        -25 => Err(Error::Breach(Breach::DoneOutOfTurn)),
+        -26 => Err(Error::Breach(Breach::ClosedEarly)),
         _ => Err(match Cause::of(-100 - status) {
             Some(cause) => Error::NoPlan(Refusal { cause, position: None }),
             None => Error::Other(status),
@@ -132,21 +187,31 @@ fn answer(status: i64) -> Result<u64> {
 }
 
 /// What a site does in an event. A number is a place.
-#[derive(Clone, Copy, Debug, PartialEq, Eq)]
+#[derive(Clone, Copy, Debug, PartialEq, Eq, Hash)]
 pub enum Kind {
+    /// Takes the next letter.
     Take(u32),
+    /// Gives the fork.
     Give(u32),
+    /// Ends its meal.
     End,
+    /// Begins a meal.
     Begin,
+    /// Gives up the meals that it has left, after one whose job failed.
     Quit,
+    /// Grows hungry.
     Hungry,
+    /// Asks for the fork.
     Ask(u32),
+    /// Says that it needs the fork no more.
     Done(u32),
+    /// Says that no letter follows.
     Close(u32),
 }
 
 impl Kind {
-    fn numbers(self) -> (u32, u32) {
+    /// Returns the number of the kind, as in `dine.h`, and the place, which is 0 if the kind has none.
+    pub fn numbers(self) -> (u32, u32) {
         match self {
             Kind::Take(i) => (0, i),
             Kind::Give(i) => (1, i),
@@ -160,7 +225,15 @@ impl Kind {
         }
     }
 
-    fn of(kind: u32, place: u32) -> Option<Kind> {
+    /// Returns the kind with this number, as in `dine.h`. A kind without a place does not look at it.
+    ///
+    /// ```
+    /// use dine::Kind;
+    /// let (number, place) = Kind::Give(3).numbers();
+    /// assert_eq!(Kind::of(number, place), Some(Kind::Give(3)));
+    /// assert_eq!(Kind::of(9, 0), None);
+    /// ```
+    pub fn of(kind: u32, place: u32) -> Option<Kind> {
         Some(match kind {
             0 => Kind::Take(place),
             1 => Kind::Give(place),
@@ -177,25 +250,33 @@ impl Kind {
 }
 
 /// An event of a world.
-#[derive(Clone, Copy, Debug, PartialEq, Eq)]
+#[derive(Clone, Copy, Debug, PartialEq, Eq, Hash)]
 pub struct Event {
+    /// The site that does it.
     pub site: u32,
+    /// What it does.
     pub kind: Kind,
 }
 
 /// A stay of a fork at one end: the site, the number of its first meal, and the number of its meals.
 #[derive(Clone, Copy, Debug, PartialEq, Eq)]
 pub struct Period {
+    /// The site.
     pub site: u32,
+    /// The number of its first meal with the fork.
     pub first: u32,
+    /// How many meals it ate.
     pub count: u32,
 }
 
 /// What a site is doing.
 #[derive(Clone, Copy, Debug, PartialEq, Eq)]
 pub enum Phase {
+    /// It wants nothing.
     Thinking,
+    /// It wants to eat, and lacks forks or has not begun.
     Hungry,
+    /// It eats.
     Eating,
 }
 
@@ -245,6 +326,12 @@ impl Drop for Handle {
 }
 
 /// A plan: sites with their jobs, and edges.
+///
+/// ```
+/// let plan = dine::Plan::read("version = 1\n[[site]]\nname = \"a\"\njobs = []\n")?;
+/// assert_eq!((plan.sites(), plan.name(0)?, plan.jobs(0)?), (1, "a".to_string(), 0));
+/// # Ok::<(), dine::Error>(())
+/// ```
 pub struct Plan {
     handle: Handle,
 }
@@ -307,6 +394,16 @@ impl Plan {
 }
 
 /// All sites of a plan in one thread.
+///
+/// ```
+/// # let text = "version = 1\n[[site]]\nname = \"a\"\njobs = [{ name = \"x\" }]\n";
+/// let mut world = dine::World::open(&dine::Plan::read(text)?)?;
+/// while let Some(event) = world.nth(0) {
+///     world.step(event)?;
+/// }
+/// assert_eq!(world.ate(0)?, 1);
+/// # Ok::<(), dine::Error>(())
+/// ```
 pub struct World {
     handle: Handle,
 }
@@ -424,16 +521,37 @@ impl World {
 /// What a site has at a place.
 #[derive(Clone, Copy, Debug)]
 pub struct Place {
+    /// The edge.
     pub edge: u32,
+    /// The site at its other end.
     pub neighbour: u32,
+    /// Whether the fork is here.
     pub has_fork: bool,
+    /// Whether the request token is here.
     pub has_token: bool,
+    /// Whether the fork is here and dirty: it is in the meal, or was eaten with since it came.
+    pub is_dirty: bool,
 }
 
 /// One site. It may go to another thread, and its letters are bytes.
+///
+/// ```
+/// use dine::{Kind, Plan, Site};
+/// # let job = "jobs = [{ name = \"x\" }]";
+/// # let text = format!("version = 1\n[[site]]\nname = \"a\"\n{job}\n[[site]]\nname = \"b\"\n{job}\n[[edge]]\nends = [\"a\", \"b\"]\n");
+/// let plan = Plan::read(&text)?;
+/// let (mut a, mut b) = (Site::open(&plan, 0)?, Site::open(&plan, 1)?);
+/// b.act(Kind::Hungry)?;
+/// a.take(b.act(Kind::Ask(0))?)?;
+/// assert_eq!(a.next(), Some(Kind::Give(0)));
+/// # Ok::<(), dine::Error>(())
+/// ```
 pub struct Site {
     handle: Handle,
     room: Box<[u8]>,
+    // The edges of places that were broken off, and those over which Close has come.
+    broken: Vec<u32>,
+    closed: Vec<u32>,
 }
 
 impl Site {
@@ -442,7 +560,7 @@ impl Site {
         let handle = Handle::closed();
         answer(unsafe { sys::dine_site_open(plan.handle.get(), site, handle.get()) })?;
         let room = vec![0; LETTER_MAX].into_boxed_slice();
-        Ok(Site { handle, room })
+        Ok(Site { handle, room, broken: Vec::new(), closed: Vec::new() })
     }
 
     fn state(&self) -> sys::SiteState {
@@ -475,8 +593,8 @@ impl Site {
     pub fn place(&self, place: u32) -> Result<Place> {
         let mut raw = sys::Place::default();
         answer(unsafe { sys::dine_site_place(self.handle.get(), place, &mut raw) })?;
-        let sys::Place { edge, neighbour, has_fork, has_token } = raw;
-        Ok(Place { edge, neighbour, has_fork: has_fork == 1, has_token: has_token == 1 })
+        let sys::Place { edge, neighbour, has_fork, has_token, is_dirty } = raw;
+        Ok(Place { edge, neighbour, has_fork: has_fork == 1, has_token: has_token == 1, is_dirty: is_dirty == 1 })
     }
 
     /// The first event that it may do without a letter.
@@ -505,16 +623,37 @@ impl Site {
         Ok(&self.room[..len as usize])
     }
 
-    /// Gives the link of a place up, as after the loss of its connection. Returns the letter, which is Close.
+    /// Gives the link of a place up, as after the loss of its connection. Returns the letter, which is Close. From then
+    /// on the site is never finished: see [`Site::is_stuck`].
     pub fn break_off(&mut self, place: u32) -> Result<&[u8]> {
         let (out, room) = (self.room.as_mut_ptr(), self.room.len());
         let len = answer(unsafe { sys::dine_site_break(self.handle.get(), place, out, room) })?;
+        self.broken.push(self.place(place)?.edge);
         Ok(&self.room[..len as usize])
+    }
+
+    /// Returns whether the site can never go on, since a link was broken off: it has meals left that can never begin, as
+    /// a fork is lost with the neighbour; or it has done all that it can, and no other neighbour has a letter for it.
+    pub fn is_stuck(&self) -> bool {
+        if self.broken.is_empty() || self.phase() == Phase::Eating {
+            return false;
+        }
+        let places: Vec<_> = (0..self.degree()).filter_map(|i| self.place(i).ok()).collect();
+        let is_lost = |it: &Place| !it.has_fork && self.broken.contains(&it.edge);
+        let is_over = |it: &Place| self.broken.contains(&it.edge) || self.closed.contains(&it.edge);
+        match (self.phase(), self.next()) {
+            (Phase::Hungry, None) | (_, Some(Kind::Hungry)) => places.iter().any(is_lost),
+            (_, None) => places.iter().all(is_over),
+            _ => false,
+        }
     }
 
     /// Takes a letter, also while the site eats. If the bytes are no letter that is allowed now, nothing changes.
     pub fn take(&mut self, letter: &[u8]) -> Result<()> {
         answer(unsafe { sys::dine_site_take(self.handle.get(), letter.as_ptr(), letter.len()) })?;
+        if let [CLOSE, edge @ ..] = letter {
+            self.closed.extend(<[u8; 4]>::try_from(edge).map(u32::from_le_bytes));
+        }
         Ok(())
     }
 
@@ -538,5 +677,23 @@ impl Site {
     /// The value of the fork in hand at a place; `NoSuch` if the neighbour has it.
     pub fn value(&self, place: u32) -> Result<u64> {
         answer(unsafe { sys::dine_site_value(self.handle.get(), place) })
+    }
+}
+
+impl fmt::Debug for Plan {
+    fn fmt(&self, f: &mut fmt::Formatter<'_>) -> fmt::Result {
+        f.debug_struct("Plan").field("sites", &self.sites()).field("edges", &self.edges()).finish_non_exhaustive()
+    }
+}
+
+impl fmt::Debug for World {
+    fn fmt(&self, f: &mut fmt::Formatter<'_>) -> fmt::Result {
+        f.debug_struct("World").field("enabled", &self.enabled()).finish_non_exhaustive()
+    }
+}
+
+impl fmt::Debug for Site {
+    fn fmt(&self, f: &mut fmt::Formatter<'_>) -> fmt::Result {
+        f.debug_struct("Site").field("phase", &self.phase()).field("ate", &self.ate()).finish_non_exhaustive()
     }
 }

@@ -37,6 +37,7 @@ pub struct Place {
     pub neighbour: u32,
     pub has_fork: u32,
     pub has_token: u32,
+    pub is_dirty: u32,
 }
 
 extern "C" {
@@ -129,6 +130,12 @@ extern "C" {
     pub fn dine_site_break(
         handle: *mut Handle,
         i: u32,
+        out: *mut u8,
+        out_len: usize,
+    ) -> i64;
+    pub fn dine_site_act(
+        handle: *mut Handle,
+        event: *const Event,
         out: *mut u8,
         out_len: usize,
     ) -> i64;

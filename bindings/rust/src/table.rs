@@ -1,264 +1,270 @@
-//! Workers that drive a proved [`Site`] each, for threads of one's own. [`crate::Table`] starts the threads itself.
+//! Workers, the edges between them, and what they share: the table before it is opened.
 //!
-//! Letters go over channels, and the value of an edge travels with its fork, so a worker has it only while it has the
-//! fork.
+//! It is a value like any other. It refuses what cannot be part of a plan at the call that asks for it, so that `open`
+//! and `run` fail for want of memory only, or because an edge has a worker of another table.
 
-use crate::{Error, Kind, Period, Plan, Result, Site};
-use std::sync::mpsc::{Receiver, Sender, channel};
+use crate::{Cause, Error, Position, Refusal, Result};
+use std::sync::atomic::{AtomicU64, Ordering};
 
-// A letter, and with a fork the value of its edge.
-struct Post<T> {
-    letter: Box<[u8]>,
-    value: Option<T>,
+// The most workers and edges of a plan, and the longest name.
+const WORKERS: usize = 64;
+const EDGES: usize = 512;
+const NAME: usize = 32;
+
+// What tells each worker, edge and open table of this process from all others.
+pub(crate) fn next_mark() -> u64 {
+    static NEXT: AtomicU64 = AtomicU64::new(0);
+    NEXT.fetch_add(1, Ordering::Relaxed)
 }
 
-/// A seat at the table: what a worker takes to its thread. If it is dropped, the neighbours get `Gone`.
-pub struct Seat<T> {
-    worker: Worker<T>,
-}
-
-// What a worker has at a place: the neighbour's inbox, and the value of the edge while it has the fork.
-struct AtPlace<T> {
-    to: Sender<Post<T>>,
-    edge: u32,
-    neighbour: u32,
-    value: Option<T>,
-}
-
-/// A seat for each site of a plan.
-pub struct Seats;
-
-impl Seats {
-    /// Sets the table: a seat for each site of the plan, in order, with a value for each edge.
-    pub fn set<T>(plan: &Plan, values: Vec<T>) -> Result<Vec<Seat<T>>> {
-        if values.len() != plan.edges() as usize {
-            return Err(Error::NoSuch);
-        }
-        let mut values: Vec<Option<T>> = values.into_iter().map(Some).collect();
-        let (posts, inboxes): (Vec<_>, Vec<_>) = (0..plan.sites()).map(|_| channel()).unzip();
-        let mut seats = Vec::new();
-        for (site, inbox) in (0u32..).zip(inboxes) {
-            let opened = Site::open(plan, site)?;
-            let mut places = Vec::new();
-            for i in 0..opened.degree() {
-                let place = opened.place(i)?;
-                let value = if place.has_fork { values[place.edge as usize].take() } else { None };
-                let to = posts[place.neighbour as usize].clone();
-                places.push(AtPlace { to, edge: place.edge, neighbour: place.neighbour, value });
-            }
-            let worker = Worker { number: site, site: opened, polite: true, is_gone: false, inbox, places };
-            seats.push(Seat { worker });
-        }
-        Ok(seats)
-    }
-}
-
-impl<T> Seat<T> {
-    /// The number of the site.
-    pub fn site(&self) -> u32 {
-        self.worker.number
-    }
-
-    /// Sits down, on the thread that is to do the worker's meals.
-    pub fn sit(self) -> Worker<T> {
-        self.worker
-    }
-}
-
-/// A worker with its proved site.
-pub struct Worker<T> {
+/// A worker of a table. A table and its clones know their workers, and refuse those of other tables.
+#[derive(Clone, Copy, Debug, PartialEq, Eq, Hash, PartialOrd, Ord)]
+pub struct WorkerId {
     number: u32,
-    site: Site,
-    polite: bool,
-    // Whether a neighbour ended early. Its letters may be missing, so nothing is waited for any more.
-    is_gone: bool,
-    inbox: Receiver<Post<T>>,
-    places: Vec<AtPlace<T>>,
+    mark: u64,
 }
 
-/// The values of a worker's edges, while it eats.
-pub struct Values<'a, T> {
-    places: &'a mut [AtPlace<T>],
-}
-
-impl<T> Values<'_, T> {
-    /// The number of places.
-    pub fn len(&self) -> usize {
-        self.places.len()
-    }
-
-    /// Whether there is none.
-    pub fn is_empty(&self) -> bool {
-        self.places.is_empty()
-    }
-
-    /// The value at a place.
-    pub fn at(&mut self, place: usize) -> Option<&mut T> {
-        self.places.get_mut(place)?.value.as_mut()
-    }
-
-    /// The value of an edge.
-    pub fn edge(&mut self, edge: u32) -> Option<&mut T> {
-        self.places.iter_mut().find(|p| p.edge == edge)?.value.as_mut()
-    }
-
-    /// All of them, by place.
-    pub fn iter_mut(&mut self) -> impl Iterator<Item = &mut T> {
-        self.places.iter_mut().filter_map(|p| p.value.as_mut())
-    }
-}
-
-/// What a worker leaves: the values and the logs of the forks that it has.
-#[derive(Debug)]
-pub struct Left<T> {
-    pub ate: u32,
-    pub edges: Vec<(u32, T, Vec<Period>)>,
-}
-
-impl<T> Worker<T> {
-    /// The number of its site.
-    pub fn site(&self) -> u32 {
+impl WorkerId {
+    /// Returns the number: workers are numbered from 0, in the order in which they were added.
+    pub fn number(self) -> u32 {
         self.number
     }
+}
 
-    /// The sites at the other ends of its places, by place.
-    pub fn neighbours(&self) -> Vec<u32> {
-        self.places.iter().map(|place| place.neighbour).collect()
+/// An edge of a table. A table and its clones know their edges, and refuse those of other tables.
+#[derive(Clone, Copy, Debug, PartialEq, Eq, Hash, PartialOrd, Ord)]
+pub struct EdgeId {
+    number: u32,
+    mark: u64,
+}
+
+impl EdgeId {
+    /// Returns the number: edges are numbered from 0, in the order in which they were added.
+    pub fn number(self) -> u32 {
+        self.number
+    }
+}
+
+// Who is joined to whom.
+#[derive(Clone, Debug, Default)]
+pub(crate) struct Graph {
+    pub ids: Vec<WorkerId>,
+    pub names: Vec<String>,
+    pub edge_ids: Vec<EdgeId>,
+    pub ends: Vec<(WorkerId, WorkerId)>,
+}
+
+impl Graph {
+    // The number of a worker of this table.
+    pub fn worker(&self, id: WorkerId) -> Result<usize> {
+        let number = id.number as usize;
+        if self.ids.get(number) == Some(&id) { Ok(number) } else { Err(Error::OtherTable) }
     }
 
-    /// How many meals it ate.
-    pub fn ate(&self) -> u32 {
-        self.site.ate()
+    // The number of an edge of this table.
+    pub fn edge(&self, id: EdgeId) -> Result<usize> {
+        let number = id.number as usize;
+        if self.edge_ids.get(number) == Some(&id) { Ok(number) } else { Err(Error::OtherTable) }
     }
 
-    /// The same worker, which takes a letter before a meal only if it cannot eat without one. So it may eat again and
-    /// again before a neighbour that waits; forks move less often, and a run takes less time.
-    pub fn eager(mut self) -> Worker<T> {
-        self.polite = false;
+    pub fn named(&self, name: &str) -> Option<WorkerId> {
+        self.names.iter().position(|it| it == name).map(|number| self.ids[number])
+    }
+
+    pub fn between(&self, one: WorkerId, other: WorkerId) -> Option<EdgeId> {
+        let joins = |ends: &(WorkerId, WorkerId)| *ends == (one, other) || *ends == (other, one);
+        self.ends.iter().position(joins).map(|number| self.edge_ids[number])
+    }
+
+    // The text of the plan. A site with jobs left may give them up after one that fails.
+    pub fn text(&self, jobs: impl Fn(usize) -> String) -> String {
+        let mut text = String::from("version = 2\n");
+        for (at, name) in self.names.iter().enumerate() {
+            text += &format!("[[site]]\nname = \"{name}\"\njobs = [{}]\non_fault = \"resign\"\n", jobs(at));
+        }
+        for (one, other) in &self.ends {
+            let name = |it: &WorkerId| &self.names[it.number as usize];
+            text += &format!("[[edge]]\nends = [\"{}\", \"{}\"]\n", name(one), name(other));
+        }
+        text
+    }
+
+    fn refusal_of_worker(&self, name: &str) -> Option<Cause> {
+        let is_letter = |it: u8| it.is_ascii_alphanumeric() || it == b'_' || it == b'-';
+        if name.is_empty() || name.len() > NAME || !name.bytes().all(is_letter) {
+            Some(Cause::BadName)
+        } else if self.names.iter().any(|it| it == name) {
+            Some(Cause::SiteTwice)
+        } else if self.names.len() == WORKERS {
+            Some(Cause::TooManySites)
+        } else {
+            None
+        }
+    }
+
+    fn refusal_of_edge(&self, one: WorkerId, other: WorkerId) -> Option<Cause> {
+        if one == other {
+            Some(Cause::Loop)
+        } else if self.between(one, other).is_some() {
+            Some(Cause::EdgeTwice)
+        } else if self.ends.len() == EDGES {
+            Some(Cause::TooManyEdges)
+        } else {
+            None
+        }
+    }
+}
+
+// How an open table goes about it.
+#[derive(Clone, Copy, Debug)]
+pub(crate) struct Manner {
+    pub patience: u32,
+    pub keep: usize,
+    pub journals: bool,
+    pub renew_after: u32,
+}
+
+/// The meals that a site of the library has at most. Once a site has eaten them, all sites are opened anew.
+pub(crate) const MEALS: u32 = 1000;
+
+/// Workers and their edges, before they are opened or run.
+///
+/// `T` is what two workers share at their edge, `S` what each worker has for itself; `()` is nothing.
+///
+/// ```
+/// let mut table = dine::Table::new();
+/// let (ann, bob) = (table.worker("ann")?, table.worker("bob")?);
+/// let account = table.edge(ann, bob, 100)?;
+/// let open = table.open()?;
+/// open.eat(ann, |meal| *meal.with(bob).unwrap() -= 30)?;
+/// assert_eq!(*open.close()?.value(account), 70);
+/// # Ok::<(), dine::Error>(())
+/// ```
+#[derive(Clone, Debug)]
+pub struct Table<T, S = ()> {
+    pub(crate) graph: Graph,
+    pub(crate) values: Vec<T>,
+    pub(crate) states: Vec<S>,
+    pub(crate) manner: Manner,
+}
+
+impl<T> Table<T> {
+    /// Makes a table without workers.
+    pub fn new() -> Table<T> {
+        Table::with_states()
+    }
+
+    /// Adds a worker with a name of its own, of 1 to 32 letters of ASCII, digits, `_` and `-`.
+    ///
+    /// # Errors
+    ///
+    /// `NoPlan` with the cause if the name is none or is another worker's, or if there are 64 workers.
+    pub fn worker(&mut self, name: &str) -> Result<WorkerId> {
+        self.worker_with(name, ())
+    }
+}
+
+impl<T> Default for Table<T> {
+    fn default() -> Table<T> {
+        Table::new()
+    }
+}
+
+impl<T, S> Table<T, S> {
+    /// Makes a table without workers, each of which is to have a state of its own.
+    ///
+    /// ```
+    /// let mut table = dine::Table::with_states();
+    /// let ann = table.worker_with("ann", 0)?;
+    /// let bob = table.worker_with("bob", 0)?;
+    /// table.edge(ann, bob, ())?;
+    /// let open = table.open()?;
+    /// open.eat(ann, |meal| *meal.state() += 1)?;
+    /// assert_eq!(open.close()?.into_parts(), (vec![()], vec![1, 0]));
+    /// # Ok::<(), dine::Error>(())
+    /// ```
+    pub fn with_states() -> Table<T, S> {
+        let manner = Manner { patience: 0, keep: 1000, journals: false, renew_after: MEALS };
+        Table { graph: Graph::default(), values: Vec::new(), states: Vec::new(), manner }
+    }
+
+    /// Adds a worker with a name and a state of its own.
+    ///
+    /// # Errors
+    ///
+    /// Those of [`Table::worker`].
+    pub fn worker_with(&mut self, name: &str, state: S) -> Result<WorkerId> {
+        let number = self.graph.names.len() as u32;
+        if let Some(cause) = self.graph.refusal_of_worker(name) {
+            return Err(Error::NoPlan(Refusal { cause, position: Some(Position::Site(number)) }));
+        }
+        let id = WorkerId { number, mark: next_mark() };
+        self.graph.ids.push(id);
+        self.graph.names.push(name.to_string());
+        self.states.push(state);
+        Ok(id)
+    }
+
+    /// Adds an edge between two workers, with the value that they share.
+    ///
+    /// # Errors
+    ///
+    /// `OtherTable` if a worker is of another table, and `NoPlan` with the cause if both are one, if they have an edge
+    /// already, or if there are 512 edges.
+    pub fn edge(&mut self, one: WorkerId, other: WorkerId, value: T) -> Result<EdgeId> {
+        self.graph.worker(one)?;
+        self.graph.worker(other)?;
+        let number = self.graph.ends.len() as u32;
+        if let Some(cause) = self.graph.refusal_of_edge(one, other) {
+            return Err(Error::NoPlan(Refusal { cause, position: Some(Position::Edge(number)) }));
+        }
+        let id = EdgeId { number, mark: next_mark() };
+        self.graph.edge_ids.push(id);
+        self.graph.ends.push((one, other));
+        self.values.push(value);
+        Ok(id)
+    }
+
+    /// Lets a worker begin up to this number of meals after a neighbour has asked, if it has all its forks.
+    ///
+    /// Then forks move less often, and a dense table takes less time; the longest wait is longer. If nobody comes for
+    /// such a meal, the neighbour is woken, and takes the fork. With 0, which is the default, a worker is polite: it
+    /// begins none, or one if by the rules it is first.
+    pub fn patience(&mut self, meals: u32) -> &mut Table<T, S> {
+        self.manner.patience = meals;
         self
     }
 
-    /// Eats once: waits for all forks, and calls `job` with the values. An `Err` of the job is a job that failed.
-    ///
-    /// # Errors
-    ///
-    /// Returns `NotNow` if no meal is left, and `Gone` once a neighbour has ended early and this worker would wait.
-    pub fn eat<R, E>(
-        &mut self,
-        job: impl FnOnce(&mut Values<'_, T>) -> std::result::Result<R, E>,
-    ) -> Result<std::result::Result<R, E>> {
-        self.eat_as(job, std::result::Result::is_err)
+    /// The same without a limit.
+    pub fn eager(&mut self) -> &mut Table<T, S> {
+        self.patience(u32::MAX)
     }
 
-    // Eats once. `failed` says of what the job returned whether the job failed.
-    pub(crate) fn eat_as<R>(
-        &mut self,
-        job: impl FnOnce(&mut Values<'_, T>) -> R,
-        failed: impl FnOnce(&R) -> bool,
-    ) -> Result<R> {
-        if self.polite {
-            self.attend()?;
-        }
-        loop {
-            match self.site.next() {
-                _ if self.site.is_finished() => return Err(Error::NotNow),
-                Some(Kind::Begin) => break,
-                Some(kind @ (Kind::Give(_) | Kind::Ask(_) | Kind::Hungry)) => self.act(kind)?,
-                // No meal is left.
-                Some(_) => return Err(Error::NotNow),
-                None => self.wait()?,
-            }
-        }
-        self.site.begin()?;
-        let done = job(&mut Values { places: &mut self.places });
-        self.site.end(failed(&done))?;
-        Ok(done)
+    /// Sets how many stays of each fork its log keeps, the last ones: 1,000 by default, and all of them in `run`.
+    pub fn keep_log(&mut self, stays: usize) -> &mut Table<T, S> {
+        self.manner.keep = stays;
+        self
     }
 
-    /// Takes the letters that are there, and gives the forks that were asked for.
-    pub fn attend(&mut self) -> Result<()> {
-        while let Ok(post) = self.inbox.try_recv() {
-            self.take(post)?;
-        }
-        while let Some(kind @ Kind::Give(_)) = self.site.next() {
-            self.act(kind)?;
-        }
-        Ok(())
+    /// Keeps what each site did, for [`Closed::order`](crate::Closed::order). This grows without end.
+    pub fn keep_journals(&mut self) -> &mut Table<T, S> {
+        self.manner.journals = true;
+        self
     }
 
-    /// Ends the work: gives the forks that are asked for until no neighbour needs any more.
-    ///
-    /// # Errors
-    ///
-    /// Returns `MealsLeft` if the worker has meals left, and `Gone` once a neighbour has ended early.
-    pub fn leave(mut self) -> Result<Left<T>> {
-        loop {
-            match self.site.next() {
-                Some(Kind::Hungry | Kind::Begin | Kind::End) => return Err(Error::MealsLeft),
-                Some(kind) => self.act(kind)?,
-                None if self.site.is_finished() => break,
-                None => self.wait()?,
-            }
-        }
-        let ate = self.site.ate();
-        let mut edges = Vec::new();
-        for (i, place) in (0u32..).zip(self.places.iter_mut()) {
-            if let Some(value) = place.value.take() {
-                edges.push((place.edge, value, self.site.log(i)?));
-            }
-        }
-        Ok(Left { ate, edges })
+    #[doc(hidden)] // For tests: opens the sites anew after this number of meals of one, at most 1,000.
+    pub fn renew_after(&mut self, meals: u32) -> &mut Table<T, S> {
+        self.manner.renew_after = meals.clamp(1, MEALS);
+        self
     }
 
-    // Waits for a letter, and takes it.
-    fn wait(&mut self) -> Result<()> {
-        if self.is_gone {
-            return Err(Error::Gone);
-        }
-        let post = self.inbox.recv().map_err(|_| Error::Gone)?;
-        self.take(post)
+    /// Returns the worker with this name.
+    pub fn worker_named(&self, name: &str) -> Option<WorkerId> {
+        self.graph.named(name)
     }
 
-    fn take(&mut self, post: Post<T>) -> Result<()> {
-        if post.letter.is_empty() {
-            self.is_gone = true;
-            return Err(Error::Gone);
-        }
-        self.site.take(&post.letter)?;
-        if let Some(value) = post.value {
-            let edge = u32::from_le_bytes([post.letter[1], post.letter[2], post.letter[3], post.letter[4]]);
-            if let Some(place) = self.places.iter_mut().find(|p| p.edge == edge) {
-                place.value = Some(value);
-            }
-        }
-        Ok(())
-    }
-
-    // Does the event, and posts its letter.
-    fn act(&mut self, kind: Kind) -> Result<()> {
-        let letter: Box<[u8]> = self.site.act(kind)?.into();
-        if letter.is_empty() {
-            return Ok(());
-        }
-        let i = match kind {
-            Kind::Give(i) | Kind::Ask(i) | Kind::Done(i) | Kind::Close(i) => i,
-            _ => return Ok(()),
-        };
-        let place = &mut self.places[i as usize];
-        let value = if letter[0] == 1 { place.value.take() } else { None };
-        // A neighbour that has ended takes no more letters, and needs none.
-        let _ = place.to.send(Post { letter, value });
-        Ok(())
-    }
-}
-
-impl<T> Drop for Worker<T> {
-    // A worker that ends early tells its neighbours, which would wait for it.
-    fn drop(&mut self) {
-        if !self.site.is_finished() {
-            for place in &self.places {
-                let _ = place.to.send(Post { letter: Box::new([]), value: None });
-            }
-        }
+    /// Returns the edge between two workers.
+    pub fn edge_between(&self, one: WorkerId, other: WorkerId) -> Option<EdgeId> {
+        self.graph.between(one, other)
     }
 }

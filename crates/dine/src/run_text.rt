@@ -10,7 +10,7 @@ use crate::tables::{write_edges, write_sites};
 use dine_graph::Plan;
 use dine_link::{ChannelLane, Lane, RingLane};
 use dine_rules::laws;
-use dine_threads::{Gathered, edge_table, run, site_table};
+use dine_threads::{Gathered, RunOptions, edge_table, run_with, site_table};
 use dine_words::{Links, Table};
 use std::alloc::{AllocError, Global};
 use std::sync::Wait;
@@ -59,7 +59,8 @@ where
 {
     laws::values_are_those_of_the_logs();
     let diners = open_diners(alloc, plan)?;
-    let gathered = run::<L, PlanDiner>(rt, alloc, plan, diners)?;
+    // Sites eat as long as they can: that is the fastest, and the table does not show how long a neighbour waits.
+    let gathered = run_with::<L, PlanDiner>(rt, alloc, plan, diners, RunOptions::greedy())?;
     Ok(table_text(alloc, plan, &gathered, table)?)
 }
 

@@ -3,12 +3,14 @@
 //! and the number of runs, and the manner of the sites if it was given. With `world` it measures a world of one thread,
 //! from its opening to the forks after its last event. With `--overtakes` it finds an order of each run, and writes
 //! how many meals a neighbour began while a site waited for its own, since it grew hungry and since it asked, and how
-//! many meals a site ate while a fork stayed at it.
+//! many meals a site ate while a fork stayed at it. With `--waits` there is a run of `run_jobs` after each, by a clock,
+//! and the middle one of the longest waits of these runs is written, in microseconds.
 //!
-//! usage: dine_bench channel|ring|world RUNS [--manner eager|polite] [--overtakes] < PLAN
+//! usage: dine_bench channel|ring|world RUNS [--manner eager|greedy|PATIENCE] [--overtakes|--waits] < PLAN
 #![tactic(auto)]
 
 mod overtakes;
+mod waits;
 
 use anyhow::{Context, Result, bail};
 use dine::{PlanDiner, open_diners};
@@ -24,19 +26,36 @@ use std::rt::Clock;
 use std::sync::Wait;
 use std::thread::Threads;
 use std::time::Instant;
+use waits::longest_wait;
 
 // The number of bytes that are allocated and freed before the clock runs, so that memory that an earlier run freed is
 // brought together then.
 const SETTLING: usize = 1 << 22;
 
-// Returns the microseconds of one run over links of a lane, and its overtakes if they are asked for.
+// What is noted of each run besides its time.
+#[derive(Clone, Copy, PartialEq)]
+enum Noted {
+    Nothing,
+    Overtakes,
+    Waits,
+}
+
+// What was found of one run: its microseconds, and its overtakes or its longest wait if they are noted.
+#[derive(Drop)]
+struct Found {
+    micros: u128,
+    overtakes: Option<Overtakes>,
+    wait: Option<u128>,
+}
+
+// Measures one run over links of a lane.
 fn time<L: Lane + 'static, R: Threads + Wait + Clock + Copy + Send + 'static>(
     rt: &R,
     alloc: Global,
     plan: &Plan,
     options: RunOptions,
-    counts: bool,
-) -> Result<(u128, Option<Overtakes>)>
+    noted: Noted,
+) -> Result<Found>
 where
     L::Tx: 'static,
     L::ClosedTx: 'static,
@@ -50,7 +69,7 @@ where
         bail!("the run did not end in order");
     };
     let taken = start.elapsed(rt)?;
-    let overtakes = if counts {
+    let overtakes = if noted == Noted::Overtakes {
         let order = order_of(alloc, plan, &gathered)?;
         let mut overtakes = Overtakes::of(alloc, plan, order.as_slice())?;
         overtakes.add_stays(gathered.forks.as_slice());
@@ -58,48 +77,72 @@ where
     } else {
         None
     };
-    Ok((taken.as_micros(), overtakes))
+    let wait = if noted == Noted::Waits {
+        Some(longest_wait::<L, R>(rt, alloc, plan, options)?)
+    } else {
+        None
+    };
+    Ok(Found {
+        micros: taken.as_micros(),
+        overtakes,
+        wait,
+    })
 }
 
 // Returns the microseconds of all events of a world, each the first that is enabled.
-fn time_world<R: Clock>(rt: &R, alloc: Global, plan: &Plan) -> Result<u128> {
+fn time_world<R: Clock>(rt: &R, alloc: Global, plan: &Plan) -> Result<Found> {
     let start = Instant::now(rt)?;
     let mut world = World::open(alloc, plan)?;
     let _ = world.finish();
     let forks = world.into_forks();
     let taken = start.elapsed(rt)?;
     drop(forks);
-    Ok(taken.as_micros())
+    Ok(Found {
+        micros: taken.as_micros(),
+        overtakes: None,
+        wait: None,
+    })
 }
 
-// Returns the manner of this name.
+// Returns the manner of this name, which may be a patience.
 fn manner_of(name: &str) -> Result<Manner> {
     match name {
         "eager" => Ok(Manner::Eager),
-        "polite" => Ok(Manner::Polite),
-        _ => bail!("manners are eager or polite"),
+        "greedy" => Ok(Manner::Greedy),
+        _ => Ok(Manner::Patient(
+            name.parse()
+                .context("manners are eager, greedy or a patience")?,
+        )),
     }
 }
 
-// Returns the manner, if it was given, and whether overtakes are asked for, by the arguments behind the number of runs.
+// Returns what this word asks for.
+fn noted_of(word: &str) -> Result<Noted> {
+    match word {
+        "--overtakes" => Ok(Noted::Overtakes),
+        "--waits" => Ok(Noted::Waits),
+        _ => bail!("unknown argument"),
+    }
+}
+
+// Returns the manner, if it was given, and what is to be noted, by the arguments behind the number of runs.
 fn options_of(
     first: Option<String>,
     second: Option<String>,
     third: Option<String>,
-) -> Result<(Option<Manner>, bool)> {
+) -> Result<(Option<Manner>, Noted)> {
     match (first, second, third) {
-        (None, None, None) => Ok((None, false)),
-        (Some(word), None, None) => {
-            if word.as_str() != "--overtakes" {
-                bail!("unknown argument");
-            }
-            Ok((None, true))
-        }
+        (None, None, None) => Ok((None, Noted::Nothing)),
+        (Some(word), None, None) => Ok((None, noted_of(word.as_str())?)),
         (Some(word), Some(name), third) => {
             if word.as_str() != "--manner" {
                 bail!("unknown argument");
             }
-            Ok((Some(manner_of(name.as_str())?), third.is_some()))
+            let noted = match third {
+                Some(word) => noted_of(word.as_str())?,
+                None => Noted::Nothing,
+            };
+            Ok((Some(manner_of(name.as_str())?), noted))
         }
         _ => bail!("unknown argument"),
     }
@@ -111,33 +154,48 @@ struct Measure {
     lane: String,
     runs: u32,
     options: RunOptions,
-    counts: bool,
+    noted: Noted,
 }
 
-// Returns the microseconds of each run of the plan, in rising order, and the overtakes of all.
+// What was found of all runs: their microseconds and longest waits, in rising order, and their overtakes together.
+#[derive(Drop)]
+struct All {
+    times: Vec<u128>,
+    waits: Vec<u128>,
+    overtakes: Overtakes,
+}
+
+// Measures each run of the plan.
 fn measured<R: Threads + Wait + Clock + Copy + Send + 'static>(
     rt: &R,
     alloc: Global,
     plan: &Plan,
     measure: &Measure,
-) -> Result<(Vec<u128>, Overtakes)> {
-    let (options, counts) = (measure.options, measure.counts);
-    let mut times = Vec::new(alloc);
-    let mut all = Overtakes::none();
+) -> Result<All> {
+    let (options, noted) = (measure.options, measure.noted);
+    let mut all = All {
+        times: Vec::new(alloc),
+        waits: Vec::new(alloc),
+        overtakes: Overtakes::none(),
+    };
     for _ in 0..measure.runs {
-        let (micros, overtakes) = match measure.lane.as_str() {
-            "channel" => time::<ChannelLane, _>(rt, alloc, plan, options, counts)?,
-            "ring" => time::<RingLane, _>(rt, alloc, plan, options, counts)?,
-            "world" => (time_world(rt, alloc, plan)?, None),
+        let found = match measure.lane.as_str() {
+            "channel" => time::<ChannelLane, _>(rt, alloc, plan, options, noted)?,
+            "ring" => time::<RingLane, _>(rt, alloc, plan, options, noted)?,
+            "world" => time_world(rt, alloc, plan)?,
             _ => bail!("links are channel or ring"),
         };
-        times.push(micros)?;
-        if let Some(overtakes) = overtakes {
-            all.join(&overtakes);
+        all.times.push(found.micros)?;
+        if let Some(overtakes) = found.overtakes {
+            all.overtakes.join(&overtakes);
+        }
+        if let Some(wait) = found.wait {
+            all.waits.push(wait)?;
         }
     }
-    times.sort()?;
-    Ok((times, all))
+    all.times.sort()?;
+    all.waits.sort()?;
+    Ok(all)
 }
 
 // Writes what was run, and the times.
@@ -150,7 +208,10 @@ fn write_times(
     let (lane, runs) = (measure.lane.as_str(), measure.runs);
     match manner {
         Some(Manner::Eager) => println!(rt; "{lane} runs={runs} manner=eager")?,
-        Some(Manner::Polite) => println!(rt; "{lane} runs={runs} manner=polite")?,
+        Some(Manner::Greedy) => println!(rt; "{lane} runs={runs} manner=greedy")?,
+        Some(Manner::Patient(meals) | Manner::OnCall(meals)) => {
+            println!(rt; "{lane} runs={runs} manner={meals}")?
+        }
         None => println!(rt; "{lane} runs={runs}")?,
     }
     if let (Some(least), Some(median), Some(most)) = (
@@ -191,22 +252,26 @@ fn main(rt: HostRuntime) -> Result<()> {
     let lane = arguments.next().context("no kind of links")?;
     let runs: u32 = arguments.next().context("no number of runs")?.parse()?;
     let (first, second) = (arguments.next(), arguments.next());
-    let (manner, counts) = options_of(first, second, arguments.next())?;
+    let (manner, noted) = options_of(first, second, arguments.next())?;
     let options = match manner {
-        Some(Manner::Polite) => RunOptions::polite(),
-        _ => RunOptions::eager(),
+        Some(Manner::Eager) | None => RunOptions::eager(),
+        Some(Manner::Greedy) => RunOptions::greedy(),
+        Some(Manner::Patient(meals) | Manner::OnCall(meals)) => RunOptions::patience(meals),
     };
     let measure = Measure {
         lane,
         runs,
         options,
-        counts,
+        noted,
     };
     let plan = plan_given(rt)?;
-    let (times, overtakes) = measured(&rt, rt.alloc(), &plan, &measure)?;
-    write_times(rt, &measure, manner, times.as_slice())?;
-    if counts {
-        write_overtakes(rt, &overtakes)?;
+    let all = measured(&rt, rt.alloc(), &plan, &measure)?;
+    write_times(rt, &measure, manner, all.times.as_slice())?;
+    if noted == Noted::Overtakes {
+        write_overtakes(rt, &all.overtakes)?;
+    }
+    if let Some(wait) = all.waits.get(all.waits.len() / 2) {
+        eprintln!(rt; "wait={wait}")?;
     }
     Ok(())
 }

@@ -1,5 +1,5 @@
 -- A fork that arrives and goes on from the fork that was kept is allowed, if the site waits for it.
-use Rattle.std.proofs.Common.{◌≡◌, ◌≢◌, ◌⊎◌, ℕ, zero, suc, ◌+◌, ◌<◌, ◌≤◌, ◌==◌, ◌&&◌, ◌||◌, not, Bool, true, false, cond, List, [], ◌∷◌, ◌++◌, length, slice_get, Option, Some, None, is_some, refl, sym, ◌∙◌, ap, subst, inl, inr, arith}
+use Rattle.std.proofs.Common.{◌≡◌, ◌≢◌, ◌⊎◌, ℕ, ℤ, zero, suc, ◌+◌, ◌<◌, ◌≤◌, ◌==◌, ◌&&◌, ◌||◌, not, Bool, true, false, cond, List, [], ◌∷◌, ◌++◌, length, slice_get, Option, Some, None, is_some, refl, sym, ◌∙◌, ap, subst, inl, inr, arith}
 use Rattle.std.proofs.lemmas.Bool.{cases_Bool, cond-false, cond-true, eq-eqb, ne_eqb, true≢false}
 use Rattle.std.proofs.lemmas.Option.{same_Some}
 use Rattle.dine_token.specs.declared.log_entry.Entry.{Entry}
@@ -24,17 +24,21 @@ use Rattle.dine_rules.proofs.one_place.Hands.{with_meals}
 use Rattle.dine_rules.proofs.one_place.Owned.{own_is}
 use Rattle.dine_rules.proofs.one_place.Placed.{IsPlaced, placed}
 use Rattle.dine_rules.proofs.one_place.Sent.{meals_of-with_meals_other}
+use Rattle.dine_rules.proofs.one_site.BreachLaw.{no_breach}
 use Rattle.dine_site_core.specs.declared.site.places.Place.{Place}
 use Rattle.dine_site_core.specs.Core.{kept_at as place_kept}
 use Rattle.dine_site_core.specs.Places.{is_held, neighbour_of, no_place, place_at}
 use Rattle.dine_site_core.proofs.one_site.Eating.{slot_held}
-use Rattle.dine_wire.specs.Arrivals.{IsOfPlan}
+use Rattle.dine_wire.specs.Arrivals.{CarriesOn, DoesNotArrive, IsOfPlan, carried_on}
 use Rattle.dine_wire.specs.Carried.{GoesOn, IsCarriedOn, fork_for_next}
 use Rattle.dine_wire.specs.Notes.{fork_note}
 use Rattle.dine_wire.specs.declared.note.ForkNote.{ForkNote}
+use Rattle.dine_wire.specs.declared.wire_fault.WireFault.{WireFault}
+use Rattle.dine_wire.specs.declared.wire_fault.WireFault.TheVariants as fault
 use Rattle.dine_wire.proofs.CarriedForks.{of_plan}
-use Rattle.dine_ffi.specs.OwnSites.{ForEachFork, SeenOwnSite, StandsFor}
-use Rattle.dine_ffi.specs.Shelves.{AwaitsFork, IsForkBreach, IsNotCarriedOn, kept_at}
+use Rattle.dine_ffi.specs.Answers.{wire_status}
+use Rattle.dine_ffi.specs.OwnSites.{ForEachFork, ForkRefuses, IsForkToTake, SeenOwnSite, StandsFor}
+use Rattle.dine_ffi.specs.Shelves.{AwaitsFork, IsForkBreach, IsNotTakenBack, kept_at}
 
 -- ---- small facts
 
@@ -314,14 +318,49 @@ module _ (state : LocalState) (own : SeenOwnSite) (is : StandsFor state own) (i 
   fork_breach breach.ClosedEarly never fork note_is goes = absurd never
 
   -- no fork goes on from the one that is kept
-  pub none_goes_on : is_held (place_at own.core i).fork ≡ false → IsNotCarriedOn plan (kept_at i own.shelf) note → ForEachFork i note own (λ fork. ⊥)
-  none_goes_on away none fork note_is goes = by (kept_at i own.shelf) refl goes none
-    where
-      by : (o : Option SeenFork) → kept_at i own.shelf ≡ o → GoesOn plan o fork → IsNotCarriedOn plan o note → ⊥
-      by None shelf on not_on = on
-      by (Some kept) shelf on not_on =
-          let own_kept = (was kept fork away shelf on note_is).own in
-          not_on (subst (IsOfPlan plan) (sym own_kept) (of_plan plan is.core.is_plan e place.edge_within kept.log kept.value)) on.meals on.may (note_is ∙ ap fork_note on.is)
+  none_goes_on : (kept : SeenFork) → kept_at i own.shelf ≡ Some kept → is_held (place_at own.core i).fork ≡ false → ((n : ℕ) → CarriesOn plan kept note n → ⊥) → ForEachFork i note own (λ fork. ⊥)
+  none_goes_on kept shelf away none fork note_is goes =
+      let on : IsCarriedOn plan kept fork = subst (λ (o : Option SeenFork). GoesOn plan o fork) shelf goes in
+      let own_kept = (was kept fork away shelf on note_is).own in
+      none on.meals (record {
+        of_plan = subst (IsOfPlan plan) (sym own_kept) (of_plan plan is.core.is_plan e place.edge_within kept.log kept.value);
+        may = on.may;
+        note_is = note_is ∙ ap fork_note on.is;
+      })
+
+  -- a fork that goes on from the one that is kept may be taken, if the site waits for it
+  to_take : AwaitsFork plan own.core i note → (kept fork : SeenFork) → kept_at i own.shelf ≡ Some kept → IsCarriedOn plan kept fork → note ≡ fork_note fork → IsForkToTake i note state own fork
+  to_take awaits kept fork shelf carried note_is = record {
+    note_is = note_is;
+    goes_on = subst (λ (o : Option SeenFork). GoesOn plan o fork) (sym shelf) carried;
+    allowed = no_breach plan s state i (letter.Fork fork) (allowed kept fork awaits.no_fork shelf carried note_is awaits);
+  }
+
+  -- an allocation failed
+  memory_refusal : AwaitsFork plan own.core i note → (r : ℤ) → r ≡ wire_status fault.Memory → (kept fork : SeenFork) → kept_at i own.shelf ≡ Some kept → IsCarriedOn plan kept fork → note ≡ fork_note fork → ForkRefuses i note r state own
+  memory_refusal awaits r status kept fork shelf carried note_is = inl (status, (fork, to_take awaits kept fork shelf carried note_is))
+
+  carried_refusal : AwaitsFork plan own.core i note → (r : ℤ) → r ≡ wire_status fault.Memory → (kept : SeenFork) → kept_at i own.shelf ≡ Some kept → (n : ℕ) → CarriesOn plan kept note n → ForkRefuses i note r state own
+  carried_refusal awaits r status kept shelf n on = memory_refusal awaits r status kept (carried_on plan kept n) shelf (record { meals = n; may = on.may; is = refl }) on.note_is
+
+  -- the neighbour cannot have done that with the fork
+  unlawful_refusal : AwaitsFork plan own.core i note → (r : ℤ) → r ≡ wire_status fault.Unlawful → (kept : SeenFork) → kept_at i own.shelf ≡ Some kept → ((n : ℕ) → CarriesOn plan kept note n → ⊥) → ForkRefuses i note r state own
+  unlawful_refusal awaits r status kept shelf none = inr (inl (status, none_goes_on kept shelf awaits.no_fork none))
+
+  -- the fork that is kept does not arrive, for this fault
+  fault_refusal : AwaitsFork plan own.core i note → (r : ℤ) (kept : SeenFork) → kept_at i own.shelf ≡ Some kept → (f : WireFault) → r ≡ wire_status f → DoesNotArrive plan kept note f → ForkRefuses i note r state own
+  fault_refusal awaits r kept shelf fault.Length status never = absurd never
+  fault_refusal awaits r kept shelf fault.Kind status never = absurd never
+  fault_refusal awaits r kept shelf fault.Unlawful status none = unlawful_refusal awaits r status kept shelf none
+  fault_refusal awaits r kept shelf fault.Memory status one = carried_refusal awaits r status kept shelf one.0 one.1
+
+  kept_refusal : AwaitsFork plan own.core i note → (r : ℤ) (o : Option SeenFork) → kept_at i own.shelf ≡ o → IsNotTakenBack plan o note r → ForkRefuses i note r state own
+  kept_refusal awaits r None shelf status = inr (inl (status, λ fork note_is goes. subst (λ (o : Option SeenFork). GoesOn plan o fork) shelf goes))
+  kept_refusal awaits r (Some kept) shelf why = fault_refusal awaits r kept shelf why.0 why.1 why.2
+
+  -- the fork that the site waits for is not taken back
+  pub fork_refusal : AwaitsFork plan own.core i note → (r : ℤ) → IsNotTakenBack plan (kept_at i own.shelf) note r → ForkRefuses i note r state own
+  fork_refusal awaits r why = kept_refusal awaits r (kept_at i own.shelf) refl why
 
 module _ (state : LocalState) (own : SeenOwnSite) (is : StandsFor state own) (i : ℕ) (note : ForkNote) (awaits : AwaitsFork own.plan own.core i note) where
   pub fork_allowed : (kept fork : SeenFork) → kept_at i own.shelf ≡ Some kept → IsCarriedOn own.plan kept fork → note ≡ fork_note fork → is_allowed own.plan own.core.site state i (letter.Fork fork) ≡ true

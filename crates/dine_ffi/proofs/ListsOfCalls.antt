@@ -1,13 +1,19 @@
 -- A list of calls of a site leads where the steps of those that did not refuse lead.
-use Rattle.std.proofs.Common.{◌≡◌, ℕ, ℤ, pos, negsuc, List, [], ◌∷◌, refl, sym, ◌∙◌, subst}
+use Rattle.std.proofs.Common.{◌≡◌, ◌⊎◌, ℕ, ℤ, pos, negsuc, false, List, [], ◌∷◌, Option, Some, None, refl, sym, ◌∙◌, subst, inl, inr}
+use Rattle.std.proofs.lemmas.Bool.{cases_eq}
 use Rattle.dine_graph.specs.Plan.{SeenPlan}
+use Rattle.dine_rules.specs.declared.events.EventKind.{EventKind}
+use Rattle.dine_rules.specs.declared.events.EventKind.TheVariants as kinds
 use Rattle.dine_rules.specs.Local.{LocalState, start_of}
 use Rattle.dine_rules.specs.Steps as step
 use Rattle.dine_rules.specs.Steps.{LocalStep, Step, after}
 use Rattle.dine_ffi.specs.Acts.{put_step}
-use Rattle.dine_ffi.specs.Calls.{AreStepsOf, Call, CallsLead, IsStepOf, Returns, StepsLead}
-use Rattle.dine_ffi.specs.Calls.Call.{Hungry, Begin, End, Quit, Put, Take}
-use Rattle.dine_ffi.specs.OwnSites.{IsOpened, OwnSteps, SeenOwnSite, StandsFor}
+use Rattle.dine_ffi.specs.Calls.{AreStepsOf, Call, CallsLead, IsStepOf, Returns, StepsLead, step_of_act}
+use Rattle.dine_ffi.specs.Calls.Call.{Hungry, Begin, End, Quit, Put, Act, Take}
+use Rattle.dine_ffi.specs.Events.{kind_numbered}
+use Rattle.dine_ffi.specs.OwnSites.{ActsAs, ActsOrRefuses, IsOpened, OwnSteps, SeenOwnSite, StandsFor}
+use Rattle.dine_ffi.specs.declared.acts.PutKind.TheVariants as put
+use Rattle.dine_ffi.specs.declared.event.DineEvent.{DineEvent}
 use Rattle.dine_ffi.proofs.Standing.{begin_call, end_call, hungry_call, opened_stands, put_call, quit_call, take_call}
 
 -- a call that did not refuse did the step that it names
@@ -16,12 +22,52 @@ record DidStep (call : Call) (old new : SeenOwnSite) : Type 0 where
   names : IsStepOf old.plan old.core.site call did
   steps : OwnSteps did old new
 
+-- a call for an event of this kind did its step
+acted : (k : Option EventKind) (out out_new : List ℕ) (n : ℕ) (old new : SeenOwnSite) → ActsAs k out out_new (pos n) old new → (did : Step) × (step_of_act k ≡ Some did) × OwnSteps did old new
+acted None out out_new n old new is = absurd (let never : pos n ≡ negsuc 3 = is.0 in cc)
+acted (Some (kinds.Take i)) out out_new n old new is = absurd (let never : pos n ≡ negsuc 3 = is.0 in cc)
+acted (Some kinds.Hungry) out out_new n old new is = (step.Hungry, refl, hungry_call old new is.0.1)
+acted (Some kinds.Begin) out out_new n old new is = (step.Begin, refl, begin_call old new is.0.1)
+acted (Some kinds.End) out out_new n old new is = (step.End false, refl, end_call false old new is.0.1)
+acted (Some kinds.Quit) out out_new n old new is = (step.Quit, refl, quit_call old new is.0.1)
+acted (Some (kinds.Give i)) out out_new n old new is = (step.Give i, refl, put_call put.Give i is.0 old new is.1)
+acted (Some (kinds.Ask i)) out out_new n old new is = (step.Ask i, refl, put_call put.Ask i is.0 old new is.1)
+acted (Some (kinds.Done i)) out out_new n old new is = (step.Done i, refl, put_call put.Done i is.0 old new is.1)
+acted (Some (kinds.Close i)) out out_new n old new is = (step.Close i, refl, put_call put.Close i is.0 old new is.1)
+
+-- one that refused changed nothing
+not_acted : (k : Option EventKind) (out out_new : List ℕ) (n : ℕ) (old new : SeenOwnSite) → ActsAs k out out_new (negsuc n) old new → new ≡ old
+not_acted None out out_new n old new is = is.1
+not_acted (Some (kinds.Take i)) out out_new n old new is = is.1
+not_acted (Some kinds.Hungry) out out_new n old new is = is.0.0
+not_acted (Some kinds.Begin) out out_new n old new is = is.0.0
+not_acted (Some kinds.End) out out_new n old new is = is.0.0
+not_acted (Some kinds.Quit) out out_new n old new is = is.0.0
+not_acted (Some (kinds.Give i)) out out_new n old new is = is.0
+not_acted (Some (kinds.Ask i)) out out_new n old new is = is.0
+not_acted (Some (kinds.Done i)) out out_new n old new is = is.0
+not_acted (Some (kinds.Close i)) out out_new n old new is = is.0
+
+-- the same whether the event is one of the site or not
+act_did : (event : DineEvent) (out out_new : List ℕ) (n : ℕ) (old new : SeenOwnSite) → ActsOrRefuses event out out_new (pos n) old new
+    → (event.site ≡ old.core.site) ⊎ (event.site ≡ old.core.site → ⊥) → DidStep (Act event) old new
+act_did event out out_new n old new is (inl same) =
+    let w = acted (kind_numbered event.kind event.place) out out_new n old new (is.0 same) in
+    record { did = w.0; names = (same, w.1); steps = w.2 }
+act_did event out out_new n old new is (inr other) = absurd (let never : pos n ≡ negsuc 3 = (is.1 other).0 in cc)
+
+act_did_nothing : (event : DineEvent) (out out_new : List ℕ) (n : ℕ) (old new : SeenOwnSite) → ActsOrRefuses event out out_new (negsuc n) old new
+    → (event.site ≡ old.core.site) ⊎ (event.site ≡ old.core.site → ⊥) → new ≡ old
+act_did_nothing event out out_new n old new is (inl same) = not_acted (kind_numbered event.kind event.place) out out_new n old new (is.0 same)
+act_did_nothing event out out_new n old new is (inr other) = (is.1 other).1
+
 did_step : (call : Call) (n : ℕ) (old new : SeenOwnSite) → Returns call (pos n) old new → DidStep call old new
-did_step Hungry n old new is = record { did = step.Hungry; names = refl; steps = hungry_call old new is }
-did_step Begin n old new is = record { did = step.Begin; names = refl; steps = begin_call old new is }
-did_step (End failed) n old new is = record { did = step.End failed; names = refl; steps = end_call failed old new is }
-did_step Quit n old new is = record { did = step.Quit; names = refl; steps = quit_call old new is }
+did_step Hungry n old new is = record { did = step.Hungry; names = refl; steps = hungry_call old new is.1 }
+did_step Begin n old new is = record { did = step.Begin; names = refl; steps = begin_call old new is.1 }
+did_step (End failed) n old new is = record { did = step.End failed; names = refl; steps = end_call failed old new is.1 }
+did_step Quit n old new is = record { did = step.Quit; names = refl; steps = quit_call old new is.1 }
 did_step (Put kind i) n old new is = record { did = put_step kind i; names = refl; steps = put_call kind i is.2.0 old new is.2.1 }
+did_step (Act event) n old new is = act_did event is.0 is.1 n old new is.2 (cases_eq event.site old.core.site)
 did_step (Take bytes) n old new is =
     let w = is.outcome.1 in
     record { did = step.Take w.0 w.1; names = (w.0, w.1, refl, w.2.arrives.are); steps = take_call bytes w.0 w.1 old new w.2 }
@@ -33,6 +79,7 @@ did_nothing Begin n state old new stands is = is.0
 did_nothing (End failed) n state old new stands is = is.0
 did_nothing Quit n state old new stands is = is.0
 did_nothing (Put kind i) n state old new stands is = is.2.0
+did_nothing (Act event) n state old new stands is = act_did_nothing event is.0 is.1 n old new is.2 (cases_eq event.site old.core.site)
 did_nothing (Take bytes) n state old new stands is = (is.outcome state stands).0
 
 abbrev Leads : SeenPlan → ℕ → List (Call × ℤ) → LocalState → SeenOwnSite → Type 0

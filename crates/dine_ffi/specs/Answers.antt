@@ -43,9 +43,9 @@ eating = negsuc 6
 abbrev pub open_already : ℤ
 open_already = negsuc 7
 
--- the bytes are those of no letter that may arrive: -11 to -14
-abbrev pub IsNoLetter : ℤ → Type 0
-IsNoLetter result = (n : ℕ) × (n < 4) × (result ≡ negsuc (10 + n))
+-- the letter is of an edge that the site does not have
+abbrev pub other_edge : ℤ
+other_edge = negsuc 13
 
 -- what is returned of bytes that are refused
 abbrev pub wire_status : WireFault → ℤ
@@ -67,6 +67,10 @@ IsRefused (negsuc n) = Unit {0}
 abbrev pub IsDoneOr : ℤ → Type 0 → Type 0 → Type 0
 IsDoneOr (pos n) Done Refused = Done
 IsDoneOr (negsuc n) Done Refused = Refused
+
+-- the call returns 0 and then `Done` holds, or it refused and then `Refused` holds
+abbrev pub IsOkOr : ℤ → Type 0 → Type 0 → Type 0
+IsOkOr result Done Refused = IsDoneOr result ((result ≡ done) × Done) Refused
 
 -- the call returns this number, if an answer can be so large
 abbrev pub Reports : ℤ → ℕ → Type 0

@@ -1,23 +1,28 @@
 -- Lists of calls of one site, and the steps of the rules that they do.
-use Rattle.std.specs.Prelude.{◌≡◌, ℕ, ℤ, pos, negsuc, Bool, List, [], ◌∷◌}
+use Rattle.std.specs.Prelude.{◌≡◌, ℕ, ℤ, pos, negsuc, Bool, false, List, [], ◌∷◌, Option, Some, None}
 use Rattle.dine_graph.specs.Plan.{SeenPlan}
+use Rattle.dine_rules.specs.declared.events.EventKind.{EventKind}
+use Rattle.dine_rules.specs.declared.events.EventKind.TheVariants as kinds
 use Rattle.dine_rules.specs.declared.letters.Letter.{Letter}
 use Rattle.dine_rules.specs.Local.{LocalState, edge_at}
 use Rattle.dine_rules.specs.Steps as step
 use Rattle.dine_rules.specs.Steps.{LocalStep, Step}
 use Rattle.dine_wire.specs.Carried.{letter_bytes}
 use Rattle.dine_ffi.specs.Acts.{put_step}
-use Rattle.dine_ffi.specs.OwnSites.{BeginsOrRefuses, EndsOrRefuses, PutsOrRefuses, SeenOwnSite, StepsOrRefuses, TakesOrRefuses}
+use Rattle.dine_ffi.specs.Events.{kind_numbered}
+use Rattle.dine_ffi.specs.OwnSites.{ActsOrRefuses, BeginsOrRefuses, EndsOrRefuses, PutsOrRefuses, SeenOwnSite, StepsOrRefuses, TakesOrRefuses}
 use Rattle.dine_ffi.specs.declared.acts.PutKind.{PutKind}
+use Rattle.dine_ffi.specs.declared.event.DineEvent.{DineEvent}
 
--- A call that may change a site: an End with whether the job failed, a letter to be put at a place, or the bytes of a
--- letter to be taken.
+-- A call that may change a site: an End with whether the job failed, a letter to be put at a place, an event to be
+-- done, or the bytes of a letter to be taken.
 pub data Call : Type 0 where
   Hungry : Call
   Begin : Call
   End : Bool → Call
   Quit : Call
   Put : PutKind → ℕ → Call
+  Act : DineEvent → Call
   Take : List ℕ → Call
 
 -- the call returned this, and made of the one site the other, as its contract says
@@ -27,12 +32,26 @@ Returns Begin result old new = BeginsOrRefuses result old new
 Returns (End failed) result old new = EndsOrRefuses failed result old new
 Returns Quit result old new = StepsOrRefuses step.Quit result old new
 Returns (Put kind i) result old new = (out : List ℕ) × (out_new : List ℕ) × PutsOrRefuses i (put_step kind i) out out_new result old new
+Returns (Act event) result old new = (out : List ℕ) × (out_new : List ℕ) × ActsOrRefuses event out out_new result old new
 Returns (Take bytes) result old new = TakesOrRefuses bytes result old new
 
 -- the calls, each with what it returned, lead from the one site to the other, one after the other
 abbrev pub CallsLead : List (Call × ℤ) → SeenOwnSite → SeenOwnSite → Type 0
 CallsLead [] old new = new ≡ old
 CallsLead (call ∷ calls) old new = (next : SeenOwnSite) × Returns call.0 call.1 old next × CallsLead calls next new
+
+-- the step that a call for an event of this kind does: a job that ends went well, and a letter is taken by another call
+abbrev pub step_of_act : Option EventKind → Option Step
+step_of_act None = None
+step_of_act (Some (kinds.Take i)) = None
+step_of_act (Some kinds.Hungry) = Some step.Hungry
+step_of_act (Some kinds.Begin) = Some step.Begin
+step_of_act (Some kinds.End) = Some (step.End false)
+step_of_act (Some kinds.Quit) = Some step.Quit
+step_of_act (Some (kinds.Give i)) = Some (step.Give i)
+step_of_act (Some (kinds.Ask i)) = Some (step.Ask i)
+step_of_act (Some (kinds.Done i)) = Some (step.Done i)
+step_of_act (Some (kinds.Close i)) = Some (step.Close i)
 
 -- the step that the call names, at this site of the plan; a Take takes the letter whose bytes these are
 abbrev pub IsStepOf : SeenPlan → ℕ → Call → Step → Type 0
@@ -41,6 +60,7 @@ IsStepOf plan s Begin did = did ≡ step.Begin
 IsStepOf plan s (End failed) did = did ≡ step.End failed
 IsStepOf plan s Quit did = did ≡ step.Quit
 IsStepOf plan s (Put kind i) did = did ≡ put_step kind i
+IsStepOf plan s (Act event) did = (event.site ≡ s) × (step_of_act (kind_numbered event.kind event.place) ≡ Some did)
 IsStepOf plan s (Take bytes) did = (i : ℕ) × (letter : Letter) × (did ≡ step.Take i letter) × (bytes ≡ letter_bytes (edge_at plan s i) letter)
 
 -- the steps are those of the calls that did not refuse, in order

@@ -1,27 +1,39 @@
 -- A site with its plan, its meal and the forks that it keeps, as contracts see it; and what its calls do.
-use Rattle.std.specs.Prelude.{◌≡◌, ◌≢◌, ◌⊎◌, ℕ, ℤ, ◌<◌, ◌≤◌, Bool, false, true, List, [], ◌∷◌, Option, Some, None, length, map, nat_le, nat_lt, slice_set, if◌then◌else◌}
+use Rattle.std.specs.Prelude.{◌≡◌, ◌≢◌, ◌⊎◌, ℕ, ℤ, ◌<◌, ◌≤◌, Bool, false, true, List, Option, Some, None, length, map, nat_le, nat_lt, slice_set, if◌then◌else◌}
 use Rattle.dine_token.specs.Fork.{SeenFork}
+use Rattle.dine_token.specs.Log.{is_dirty}
 use Rattle.dine_token.specs.Meal.{SeenMeal}
 use Rattle.dine_graph.specs.Plan.{SeenPlan, edges_of, site_count}
+use Rattle.dine_rules.specs.declared.events.EventKind.{EventKind}
+use Rattle.dine_rules.specs.declared.events.EventKind.TheVariants as kind
 use Rattle.dine_rules.specs.declared.letters.Letter.{Letter}
 use Rattle.dine_rules.specs.declared.letters.Letter.TheVariants as letter
 use Rattle.dine_rules.specs.declared.breach.Breach.{Breach}
 use Rattle.dine_rules.specs.Breach.{first_breach}
 use Rattle.dine_rules.specs.Holdings.{EatsWithAll}
-use Rattle.dine_rules.specs.Letters.{forks_in}
 use Rattle.dine_rules.specs.Local.{LocalState, edge_at, is_eating, traffic_at}
 use Rattle.dine_rules.specs.Steps as step
 use Rattle.dine_rules.specs.Steps.{Step, after, may}
 use Rattle.dine_rules.specs.Streams.{KeepsStreams}
 use Rattle.dine_site_core.specs.Core.{SeenCore, Refines, forks_in_hand}
 use Rattle.dine_site_core.specs.Places.{IsMealOf}
+use Rattle.dine_site_core.specs.declared.site.places.ForkSlot.{ForkSlot}
+use Rattle.dine_site_core.specs.declared.site.places.ForkSlot.TheVariants as slot
 use Rattle.dine_site_core.specs.Standing.{CorePuts, CoreStep, CoreSteps, ForEachState, IsFreshFor, all_places}
 use Rattle.dine_core.specs.WorldSites.{meal_of}
 use Rattle.dine_wire.specs.Carried.{ArrivesWith, GoesOn, fork_for_next}
-use Rattle.dine_wire.specs.Notes.{IsInBytes, fork_note, told_of}
+use Rattle.dine_wire.specs.Faults.{IsNoNote}
+use Rattle.dine_wire.specs.Notes.{IsInBytes, bytes_of, fork_note}
 use Rattle.dine_wire.specs.declared.note.ForkNote.{ForkNote}
-use Rattle.dine_ffi.specs.Answers.{IsDoneOr, IsNoLetter, breach_status, done, eating, memory, no_such, not_now, small}
-use Rattle.dine_ffi.specs.Shelves.{first_kept, kept_at, put_away, taken_off}
+use Rattle.dine_wire.specs.declared.note.Note.{Note}
+use Rattle.dine_wire.specs.declared.note.Told.{Told}
+use Rattle.dine_wire.specs.declared.note.Told.TheVariants as told
+use Rattle.dine_wire.specs.declared.wire_fault.WireFault.{WireFault}
+use Rattle.dine_wire.specs.declared.wire_fault.WireFault.TheVariants as fault
+use Rattle.dine_ffi.specs.Answers.{IsDoneOr, IsOkOr, breach_status, eating, memory, no_such, not_now, other_edge, small, wire_status}
+use Rattle.dine_ffi.specs.Events.{kind_numbered}
+use Rattle.dine_ffi.specs.declared.event.DineEvent.{DineEvent}
+use Rattle.dine_ffi.specs.Shelves.{IsForkBreach, first_kept, kept_at, put_away, taken_off}
 use Rattle.dine_ffi.specs.Written.{AreWritten}
 
 -- the plan; the core of the site; its meal, if it eats; and for each place the fork that it keeps for the next Fork
@@ -125,6 +137,12 @@ pub record SiteEnds (failed : Bool) (old new : SeenOwnSite) : Type 0 where
   pub shelf : new.shelf ≡ old.shelf
   pub plan : new.plan ≡ old.plan
 
+-- the fork is here and dirty: it is in the meal, or was eaten with since it came [paper: clean and dirty]
+abbrev pub is_used : ForkSlot → Bool
+is_used slot.Away = false
+is_used (slot.Here fork) = is_dirty fork.log
+is_used (slot.InMeal meals) = true
+
 -- ---- what calls return
 
 -- the rules do not allow the step, in any state that the site represents
@@ -139,9 +157,10 @@ IsNoPlace i own = (state : LocalState) → StandsFor state own → length own.co
 abbrev pub step_refusal : SeenOwnSite → ℤ
 step_refusal own = if is_eating own.core.phase then eating else not_now
 
--- A call for a step does the step. Or it refuses and nothing changes; then the rules do not allow the step.
+-- A call for a step does the step, and returns 0. Or it refuses and nothing changes; then the rules do not allow the
+-- step.
 abbrev pub StepsOrRefuses : Step → ℤ → SeenOwnSite → SeenOwnSite → Type 0
-StepsOrRefuses step result old new = IsDoneOr result (SiteSteps step old new) ((new ≡ old) × MayNot step old × (result ≡ step_refusal old))
+StepsOrRefuses step result old new = IsOkOr result (SiteSteps step old new) ((new ≡ old) × MayNot step old × (result ≡ step_refusal old))
 
 -- What a call returns that refuses to put a letter at place i: that the site eats; else that `out` has fewer than 21
 -- bytes; else that there is no such place; else that the rules do not allow the step now.
@@ -164,48 +183,85 @@ PutsOrRefuses i step out out_new result old new =
     IsDoneOr result ((letter : Letter) × SitePuts i step old new letter × AreWritten letter (edge_at old.plan old.core.site i) out out_new result)
     ((new ≡ old) × (out_new ≡ out) × PutRefuses i step out result old)
 
--- a call to begin a meal begins one; or it refuses and nothing changes, and then the rules allow no meal
+-- a call to begin a meal begins one, and returns 0; or it refuses and nothing changes, and then the rules allow no meal
 abbrev pub BeginsOrRefuses : ℤ → SeenOwnSite → SeenOwnSite → Type 0
-BeginsOrRefuses result old new = IsDoneOr result (SiteBegins old new) ((new ≡ old) × MayNot step.Begin old × (result ≡ step_refusal old))
+BeginsOrRefuses result old new = IsOkOr result (SiteBegins old new) ((new ≡ old) × MayNot step.Begin old × (result ≡ step_refusal old))
 
--- a call to end a meal ends it, or there is none and nothing changes
+-- a call to end a meal ends it, and returns 0; or there is none and nothing changes
 abbrev pub EndsOrRefuses : Bool → ℤ → SeenOwnSite → SeenOwnSite → Type 0
-EndsOrRefuses failed result old new = IsDoneOr result (SiteEnds failed old new) ((new ≡ old) × MayNot (step.End failed) old × (result ≡ not_now))
+EndsOrRefuses failed result old new = IsOkOr result (SiteEnds failed old new) ((new ≡ old) × MayNot (step.End failed) old × (result ≡ not_now))
 
--- P holds of each letter that may arrive with these bytes, and of the place where it arrives. The numbers of a letter
--- fit into its bytes.
-abbrev pub ForEachLetter : List ℕ → SeenOwnSite → (ℕ → Letter → Type 0) → Type 0
-ForEachLetter bytes own P = (i : ℕ) (letter : Letter) → i < length own.core.places
-    → ArrivesWith own.plan (kept_at i own.shelf) (edge_at own.plan own.core.site i) bytes letter
-    → IsInBytes (record { edge = edge_at own.plan own.core.site i; told = told_of letter }) → P i letter
+-- A call for an event of this kind is as the call for the kind: a letter is written to the front of `out`. To take a
+-- letter is the part of another call, so a Take is refused, as a number that is no kind; then nothing changes.
+abbrev pub ActsAs : Option EventKind → List ℕ → List ℕ → ℤ → SeenOwnSite → SeenOwnSite → Type 0
+ActsAs None out out_new result old new = (result ≡ no_such) × (new ≡ old) × (out_new ≡ out)
+ActsAs (Some (kind.Take i)) out out_new result old new = (result ≡ no_such) × (new ≡ old) × (out_new ≡ out)
+ActsAs (Some kind.Hungry) out out_new result old new = StepsOrRefuses step.Hungry result old new × (out_new ≡ out)
+ActsAs (Some kind.Begin) out out_new result old new = BeginsOrRefuses result old new × (out_new ≡ out)
+ActsAs (Some kind.End) out out_new result old new = EndsOrRefuses false result old new × (out_new ≡ out)
+ActsAs (Some kind.Quit) out out_new result old new = StepsOrRefuses step.Quit result old new × (out_new ≡ out)
+ActsAs (Some (kind.Give i)) out out_new result old new = PutsOrRefuses i (step.Give i) out out_new result old new
+ActsAs (Some (kind.Ask i)) out out_new result old new = PutsOrRefuses i (step.Ask i) out out_new result old new
+ActsAs (Some (kind.Done i)) out out_new result old new = PutsOrRefuses i (step.Done i) out out_new result old new
+ActsAs (Some (kind.Close i)) out out_new result old new = PutsOrRefuses i (step.Close i) out out_new result old new
+
+-- A call for an event of the site does it, or refuses. An event of another site is refused, and nothing changes.
+abbrev pub ActsOrRefuses : DineEvent → List ℕ → List ℕ → ℤ → SeenOwnSite → SeenOwnSite → Type 0
+ActsOrRefuses event out out_new result old new =
+    (event.site ≡ old.core.site → ActsAs (kind_numbered event.kind event.place) out out_new result old new)
+    × (event.site ≢ old.core.site → ActsAs None out out_new result old new)
 
 -- P holds of each fork that may arrive with this note at place i
 abbrev pub ForEachFork : ℕ → ForkNote → SeenOwnSite → (SeenFork → Type 0) → Type 0
 ForEachFork i note own P = (fork : SeenFork) → note ≡ fork_note fork → GoesOn own.plan (kept_at i own.shelf) fork → P fork
 
--- Why a fork that arrives at place i with this note is refused. An allocation failed; or no fork may arrive with the
--- note; or the rules do not allow the fork that arrives with it.
+-- A fork arrives at place i with this note, and the rules allow it.
+pub record IsForkToTake (i : ℕ) (note : ForkNote) (state : LocalState) (own : SeenOwnSite) (fork : SeenFork) : Type 0 where
+  pub note_is : note ≡ fork_note fork
+  pub goes_on : GoesOn own.plan (kept_at i own.shelf) fork
+  pub allowed : first_breach own.plan own.core.site state i (letter.Fork fork) ≡ None
+
+-- Why a fork with this note is refused at place i, and what is returned. An allocation failed, of a fork that arrives
+-- and that the rules allow. Or no fork arrives with the note. Or the rules do not allow it, as far as the site knows
+-- without the fork; that is then the first breach of each fork that arrives with the note.
 abbrev pub ForkRefuses : ℕ → ForkNote → ℤ → LocalState → SeenOwnSite → Type 0
 ForkRefuses i note result state own =
-    (result ≡ memory)
-    ⊎ (IsNoLetter result × ForEachFork i note own (λ fork. ⊥))
-    ⊎ ((breach : Breach) × (result ≡ breach_status breach) × ForEachFork i note own (λ fork. first_breach own.plan own.core.site state i (letter.Fork fork) ≡ Some breach))
+    ((result ≡ memory) × ((fork : SeenFork) × IsForkToTake i note state own fork))
+    ⊎ ((result ≡ wire_status fault.Unlawful) × ForEachFork i note own (λ fork. ⊥))
+    ⊎ ((breach : Breach) × (result ≡ breach_status breach) × IsForkBreach own.plan own.core i note breach
+    × ForEachFork i note own (λ fork. first_breach own.plan own.core.site state i (letter.Fork fork) ≡ Some breach))
+
+-- why a letter other than a Fork is refused at place i, and what is returned: the rules do not allow it
+abbrev pub WordRefuses : ℕ → Letter → ℤ → LocalState → SeenOwnSite → Type 0
+WordRefuses i letter result state own = (breach : Breach) × (result ≡ breach_status breach) × (first_breach own.plan own.core.site state i letter ≡ Some breach)
+
+-- why what a letter of this edge reports is refused at place i, and what is returned
+abbrev pub ToldRefuses : ℕ → ℕ → Told → ℤ → LocalState → SeenOwnSite → Type 0
+ToldRefuses i edge (told.Fork fork) result state own = ForkRefuses i fork result state own
+ToldRefuses i edge told.Request result state own = WordRefuses i (letter.Request edge) result state own
+ToldRefuses i edge told.Done result state own = WordRefuses i letter.Done result state own
+ToldRefuses i edge told.Close result state own = WordRefuses i letter.Close result state own
 
 -- no place of the site is of this edge
 abbrev pub IsEdgeOfNone : ℕ → SeenOwnSite → Type 0
 IsEdgeOfNone edge own = own.core.site < site_count own.plan → (i : ℕ) → i < length (edges_of own.plan own.core.site) → edge_at own.plan own.core.site i ≢ edge
 
--- Why a call with these bytes refuses. An allocation failed, and the letter is a Fork: no other needs memory. Or no
--- letter may arrive with the bytes. Or the rules do not allow the letter that arrives with them, and the status is that
--- of its first breach.
+-- The place is the one of the edge that the note names.
+pub record IsPlaceOf (i : ℕ) (note : Note) (own : SeenOwnSite) : Type 0 where
+  pub within : i < length own.core.places
+  pub edge : edge_at own.plan own.core.site i ≡ note.edge
+
+-- Why a call with these bytes refuses, and what is returned. The bytes are those of no note, and the fault is theirs.
+-- Or they are those of a note: then no place of the site is of its edge, or what it reports is refused at the place
+-- that is.
 abbrev pub TakeRefuses : List ℕ → ℤ → LocalState → SeenOwnSite → Type 0
 TakeRefuses bytes result state own =
-    ((result ≡ memory) × ForEachLetter bytes own (λ i letter. forks_in (letter ∷ []) ≡ 1))
-    ⊎ (IsNoLetter result × ForEachLetter bytes own (λ i letter. ⊥))
-    ⊎ ((breach : Breach) × (result ≡ breach_status breach) × ForEachLetter bytes own (λ i letter. first_breach own.plan own.core.site state i letter ≡ Some breach))
+    ((f : WireFault) × (result ≡ wire_status f) × IsNoNote bytes f)
+    ⊎ ((note : Note) × IsInBytes note × (bytes ≡ bytes_of note)
+    × (((result ≡ other_edge) × IsEdgeOfNone note.edge own) ⊎ ((i : ℕ) × IsPlaceOf i note own × ToldRefuses i note.edge note.told result state own)))
 
 -- A call with the bytes of a letter takes the letter that arrives with them at one of the places, and returns 0. Or it
 -- refuses, and a site that represents a state is as it was.
 pub record TakesOrRefuses (bytes : List ℕ) (result : ℤ) (old new : SeenOwnSite) : Type 0 where
-  pub outcome : IsDoneOr result ((result ≡ done) × ((i : ℕ) × (letter : Letter) × SiteTakes bytes i letter old new))
+  pub outcome : IsOkOr result ((i : ℕ) × (letter : Letter) × SiteTakes bytes i letter old new)
       ((state : LocalState) → StandsFor state old → (new ≡ old) × TakeRefuses bytes result state old)

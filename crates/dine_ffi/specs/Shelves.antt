@@ -1,5 +1,5 @@
 -- The forks that a site keeps: what a letter changes of them, and what it needs to be taken.
-use Rattle.std.specs.Prelude.{◌≡◌, ◌≢◌, ◌⊎◌, ℕ, ◌<◌, ◌==◌, false, true, List, Option, Some, None, is_some, length, slice_index_or, slice_set, if◌then◌else◌}
+use Rattle.std.specs.Prelude.{◌≡◌, ◌≢◌, ◌⊎◌, ℕ, ℤ, ◌<◌, ◌==◌, false, true, List, Option, Some, None, is_some, length, slice_index_or, slice_set, if◌then◌else◌}
 use Rattle.dine_token.specs.Fork.{SeenFork}
 use Rattle.dine_graph.specs.Plan.{SeenPlan, job_count, lo_of, resigns, site_count}
 use Rattle.dine_rules.specs.declared.breach.Breach.{Breach}
@@ -9,9 +9,11 @@ use Rattle.dine_rules.specs.declared.letters.Letter.TheVariants.{Fork, Request, 
 use Rattle.dine_rules.specs.Steps.{opened_fork}
 use Rattle.dine_site_core.specs.Core.{SeenCore}
 use Rattle.dine_site_core.specs.Places.{is_held, neighbour_of, place_at}
-use Rattle.dine_wire.specs.Arrivals.{IsOfPlan, MayCarryOn, carried_on}
-use Rattle.dine_wire.specs.Notes.{fork_note}
+use Rattle.dine_wire.specs.Arrivals.{DoesNotArrive}
 use Rattle.dine_wire.specs.declared.note.ForkNote.{ForkNote}
+use Rattle.dine_wire.specs.declared.wire_fault.WireFault.{WireFault}
+use Rattle.dine_wire.specs.declared.wire_fault.WireFault.TheVariants as fault
+use Rattle.dine_ffi.specs.Answers.{wire_status}
 
 -- the fork that a site keeps of an edge at the start: that of the start, if the site is the higher end
 abbrev pub first_kept : SeenPlan → ℕ → ℕ → Option SeenFork
@@ -35,10 +37,11 @@ taken_off i (Request edge) shelf = shelf
 taken_off i Done shelf = shelf
 taken_off i Close shelf = shelf
 
--- no fork goes on from the one that is kept, if one is, with this note
-abbrev pub IsNotCarriedOn : SeenPlan → Option SeenFork → ForkNote → Type 0
-IsNotCarriedOn plan None note = Unit {0}
-IsNotCarriedOn plan (Some kept) note = IsOfPlan plan kept → (n : ℕ) → MayCarryOn kept n → note ≡ fork_note (carried_on plan kept n) → ⊥
+-- Why no fork is taken back with this note, and what is returned then: none is kept, and that is no lawful fork; or the
+-- one that is kept does not arrive, for this fault.
+abbrev pub IsNotTakenBack : SeenPlan → Option SeenFork → ForkNote → ℤ → Type 0
+IsNotTakenBack plan None note status = status ≡ wire_status fault.Unlawful
+IsNotTakenBack plan (Some kept) note status = (f : WireFault) × (status ≡ wire_status f) × DoesNotArrive plan kept note f
 
 -- A site waits for a Fork with this note at place i, as far as it can know without the fork. It took no Close there,
 -- and has neither fork nor token. If it took Done, the sender has eaten all its meals or resigns.

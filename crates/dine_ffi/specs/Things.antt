@@ -4,7 +4,7 @@ use Rattle.dine_graph.specs.Plan.{SeenPlan}
 use Rattle.dine_rules.specs.declared.events.Event.{Event}
 use Rattle.dine_rules.specs.World.{is_enabled}
 use Rattle.dine_core.specs.Worlds.{ForEachWorld, SeenWorld, WorldSteps}
-use Rattle.dine_ffi.specs.Answers.{IsDoneOr, closed, not_now, other_kind}
+use Rattle.dine_ffi.specs.Answers.{IsOkOr, closed, not_now, other_kind}
 use Rattle.dine_ffi.specs.OwnSites.{SeenOwnSite}
 use Rattle.dine_ffi.specs.declared.thing.Thing.{Thing}
 use Rattle.dine_ffi.specs.declared.thing.Kept.{Kept}
@@ -33,10 +33,10 @@ abbrev pub OfHeld : Option Thing → ℤ → (Kept → Type 0) → Type 0
 OfHeld None result P = result ≡ closed
 OfHeld (Some thing) result P = P thing.kept
 
--- A call for an event does it. Or it returns that the rules do not allow it now, and nothing changes; then the event is
--- not enabled.
+-- A call for an event does it, and returns 0. Or it returns that the rules do not allow it now, and nothing changes;
+-- then the event is not enabled.
 abbrev pub StepsWorldOrRefuses : Event → ℤ → SeenWorld → SeenWorld → Type 0
-StepsWorldOrRefuses event result old new = IsDoneOr result (WorldSteps event old new)
+StepsWorldOrRefuses event result old new = IsOkOr result (WorldSteps event old new)
     ((result ≡ not_now) × (new ≡ old) × ForEachWorld old (λ plan world. is_enabled plan world event ≡ false))
 
 -- a call on a world is as P says of its result and of the world before and after; anything else stays as it was

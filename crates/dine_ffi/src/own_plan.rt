@@ -3,7 +3,7 @@ ghost use Rattle.std.specs.Prelude.{◌≡◌, IfErr, IfOk, None, OnOk, length, 
 ghost use Rattle.dine_graph.specs.Plan.{edge_count, hi_of, job_count, lo_of, name_of, site_count};
 ghost use Rattle.dine_reader.specs.PlanOf.{IsPlanOf};
 ghost use Rattle.dine_reader.specs.RefusalTests.{first_fault};
-ghost use Rattle.dine_ffi.specs.Answers.{IsWithin, done};
+ghost use Rattle.dine_ffi.specs.Answers.{IsDoneOr, IsWithin, done};
 ghost use Rattle.dine_ffi.specs.Refusals.{IsRefusedFor, RefusalIs};
 ghost use Rattle.dine_ffi.specs.Written.{over_front};
 
@@ -84,8 +84,9 @@ impl OwnPlan {
 
     /// Writes the name of the site, and returns the number of its bytes. No more are written than `out` has.
     pub(crate) fn name(&self, site: u32, out: &mut [u8]) -> i64
-        ensures { IsWithin site (site_count self.now) result ((result ≡ pos (length (name_of self.now site)))
+        ensures name { IsWithin site (site_count self.now) result ((result ≡ pos (length (name_of self.now site)))
             × (out.new ≡ over_front (name_of self.now site) out.old)) }
+        ensures unwritten { IsDoneOr result Unit (out.new ≡ out.old) }
     {
         if self.plan.sites() <= site {
             return NO_SUCH;
@@ -95,8 +96,9 @@ impl OwnPlan {
 
     /// Writes the two ends of the edge.
     pub(crate) fn ends(&self, edge: u32, out: &mut DineEnds) -> i64
-        ensures { IsWithin edge (edge_count self.now) result
+        ensures ends { IsWithin edge (edge_count self.now) result
             ((result ≡ done) × (out.new ≡ record { lower = lo_of self.now edge; higher = hi_of self.now edge })) }
+        ensures unwritten { IsDoneOr result Unit (out.new ≡ out.old) }
     {
         if self.plan.edges() <= edge {
             return NO_SUCH;

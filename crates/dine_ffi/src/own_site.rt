@@ -13,13 +13,13 @@ ghost use Rattle.dine_site_core.specs.Standing.{ReportsBreach};
 ghost use Rattle.dine_ffi.specs.Acts.{put_step};
 ghost use Rattle.dine_ffi.specs.Answers.{IsDoneOr, IsRefused, Reports, breach_status, done, no_such, number_of};
 ghost use Rattle.dine_ffi.specs.Events.{seen_event};
-ghost use Rattle.dine_ffi.specs.OwnSites.{BeginsOrRefuses, EndsOrRefuses, ForkRefuses, IsEdgeOfNone, IsNoPlace};
-ghost use Rattle.dine_ffi.specs.OwnSites.{IsOpened, PutsOrRefuses, SiteSteps};
+ghost use Rattle.dine_ffi.specs.OwnSites.{ActsOrRefuses, BeginsOrRefuses, EndsOrRefuses, ForkRefuses, IsEdgeOfNone};
+ghost use Rattle.dine_ffi.specs.OwnSites.{IsNoPlace, IsOpened, PutsOrRefuses, SiteSteps, is_used};
 ghost use Rattle.dine_ffi.specs.OwnSites.{SiteTakesFork, StandsFor, StepsOrRefuses, TakesOrRefuses};
 ghost use Rattle.dine_ffi.specs.Written.{ArePeriods};
 
 use crate::acts::{PutKind, put, take};
-use crate::event::{DineEvent, event_of};
+use crate::event::{DineEvent, event_of, kind_of};
 use crate::own_plan::OwnPlan;
 use crate::periods::write_periods;
 use crate::shelf::{first_shelf, put_away, refusal_of, take_back};
@@ -27,7 +27,7 @@ use crate::status::{
     DONE, EATING, NO_SUCH, NOT_NOW, OTHER_EDGE, SMALL, breach_status, number, phase_number,
     wire_status,
 };
-use dine_rules::{Breach, Letter};
+use dine_rules::{Breach, EventKind, Letter};
 use dine_site_core::SiteCore;
 use dine_site_core::site::{ForkSlot, fresh_forks, fresh_tokens};
 use dine_token::{Fork, Meal, Token};
@@ -62,6 +62,8 @@ pub struct DinePlace {
     pub has_fork: u32,
     /// 1 if the token is here, else 0.
     pub has_token: u32,
+    /// 1 if the fork is here and dirty: in the meal, or eaten with since it came. Else 0.
+    pub is_dirty: u32,
 }
 
 /// A site, its plan, its meal if it eats, and the forks that it gave away, as they were then.
@@ -143,8 +145,9 @@ impl OwnSite {
 
     /// Writes the first event that the site may do without a letter. Returns 1, or 0 if there is none.
     pub(crate) fn next(&self, out: &mut DineEvent) -> i64
-        ensures { MatchOption (next_of self.now.core) ((result ≡ pos 0) × (out.new ≡ out.old))
+        ensures event { MatchOption (next_of self.now.core) ((result ≡ pos 0) × (out.new ≡ out.old))
             (λ kind. (result ≡ pos 1) × (out.new ≡ seen_event self.now.core.site kind)) }
+        ensures unwritten { IsDoneOr result Unit (out.new ≡ out.old) }
     {
         match self.core.next_event() {
             Some(kind) => {
@@ -185,7 +188,8 @@ impl OwnSite {
 
     /// Puts a letter at place `i`, and writes its bytes. Returns how many there are.
     pub(crate) fn put(&mut self, what: PutKind, i: u32, out: &mut [u8]) -> i64
-        ensures { PutsOrRefuses i (put_step what i) out.old out.new result self.old self.new }
+        ensures puts { PutsOrRefuses i (put_step what i) out.old out.new result self.old self.new }
+        ensures unwritten { IsDoneOr result Unit (out.new ≡ out.old) }
     {
         if self.meal.is_some() {
             return EATING;
@@ -236,6 +240,28 @@ impl OwnSite {
                 DONE
             }
             None => NOT_NOW,
+        }
+    }
+
+    /// Does the event, if it is one of this site and no Take. Writes the letter that it puts, and returns the number of
+    /// its bytes, or 0 if it puts none.
+    pub(crate) fn act(&mut self, event: DineEvent, out: &mut [u8]) -> i64
+        ensures acts { ActsOrRefuses event out.old out.new result self.old self.new }
+        ensures unwritten { IsDoneOr result Unit (out.new ≡ out.old) }
+    {
+        if event.site != self.core.site() {
+            return NO_SUCH;
+        }
+        match kind_of(event.kind, event.place) {
+            Some(EventKind::Hungry) => self.hungry(),
+            Some(EventKind::Begin) => self.begin(),
+            Some(EventKind::End) => self.end(false),
+            Some(EventKind::Quit) => self.quit(),
+            Some(EventKind::Give(i)) => self.put(PutKind::Give, i, out),
+            Some(EventKind::Ask(i)) => self.put(PutKind::Ask, i, out),
+            Some(EventKind::Done(i)) => self.put(PutKind::Done, i, out),
+            Some(EventKind::Close(i)) => self.put(PutKind::Close, i, out),
+            Some(EventKind::Take(_)) | None => NO_SUCH,
         }
     }
 
@@ -334,12 +360,13 @@ impl OwnSite {
 
     /// Writes how far the site is.
     pub(crate) fn state(&self, out: &mut DineSiteState) -> i64
-        ensures { (result ≡ done) × (out.new ≡ record {
+        ensures state { (result ≡ done) × (out.new ≡ record {
           phase = number_of self.now.core.phase;
           ate = self.now.core.ate;
           degree = length self.now.core.places;
           finished = if has_all_said self.now.core then 1 else 0;
         }) }
+        ensures unwritten { IsDoneOr result Unit (out.new ≡ out.old) }
     {
         *out = DineSiteState {
             phase: phase_number(self.core.phase()),
@@ -352,12 +379,14 @@ impl OwnSite {
 
     /// Writes what the site has at place `i`.
     pub(crate) fn place_state(&self, i: u32, out: &mut DinePlace) -> i64
-        ensures { IsDoneOr result ((i < length self.now.core.places) × (out.new ≡ record {
+        ensures place { IsDoneOr result ((i < length self.now.core.places) × (out.new ≡ record {
           edge = edge_at self.now.plan self.now.core.site i;
           neighbour = neighbour_of self.now.core.site (place_at self.now.core i);
           has_fork = if is_held (place_at self.now.core i).fork then 1 else 0;
           has_token = if is_some (place_at self.now.core i).token then 1 else 0;
+          is_dirty = if is_used (place_at self.now.core i).fork then 1 else 0;
         })) ((result ≡ no_such) × (out.new ≡ out.old) × IsNoPlace i self.now) }
+        ensures unwritten { IsDoneOr result Unit (out.new ≡ out.old) }
     {
         if self.core.degree() <= i {
             return NO_SUCH;
@@ -370,14 +399,17 @@ impl OwnSite {
             neighbour: self.core.neighbour(i),
             has_fork: u32::from(self.core.has_fork(i)),
             has_token: u32::from(self.core.has_token(i)),
+            is_dirty: u32::from(is_used(self.core.slot(i))),
         };
         DONE
     }
 
     /// Writes the periods of the log of the fork in hand at the place, and returns how many there are.
     pub(crate) fn periods(&self, i: u32, out: &mut [u32]) -> i64
-        ensures { MatchOption (hand_of (place_at self.now.core i).fork) ((result ≡ no_such) × (out.new ≡ out.old))
+        ensures periods { MatchOption (hand_of (place_at self.now.core i).fork)
+            ((result ≡ no_such) × (out.new ≡ out.old))
             (λ fork. ArePeriods fork out.old out.new result) }
+        ensures unwritten { IsDoneOr result Unit (out.new ≡ out.old) }
     {
         match fork_at(&self.core, i) {
             Some(fork) => write_periods(fork, out),
@@ -394,6 +426,17 @@ impl OwnSite {
             Some(fork) => number(fork.value()),
             None => NO_SUCH,
         }
+    }
+}
+
+// Whether the fork is here and dirty. In a meal it is.
+fn is_used(slot: &ForkSlot) -> bool
+    ensures { result ≡ is_used slot.now }
+{
+    match slot {
+        ForkSlot::Here(fork) => fork.is_dirty(),
+        ForkSlot::InMeal(_) => true,
+        ForkSlot::Away => false,
     }
 }
 

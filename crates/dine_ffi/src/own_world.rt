@@ -4,7 +4,7 @@ ghost use Rattle.dine_rules.specs.Bound.{bound_of};
 ghost use Rattle.dine_rules.specs.Schedules.{finish_within, from_here, replay};
 ghost use Rattle.dine_rules.specs.World.{IsComplete, enabled_events, start};
 ghost use Rattle.dine_core.specs.Worlds.{ForEachWorld, IsWorldOf, RunsTo, forks_seen};
-ghost use Rattle.dine_ffi.specs.Answers.{Reports, done, no_such, number_of};
+ghost use Rattle.dine_ffi.specs.Answers.{IsDoneOr, Reports, done, no_such, number_of};
 ghost use Rattle.dine_ffi.specs.Events.{kind_numbered, seen_event};
 ghost use Rattle.dine_ffi.specs.Things.{StepsWorldOrRefuses};
 ghost use Rattle.dine_ffi.specs.Written.{ArePeriods};
@@ -60,10 +60,11 @@ impl OwnWorld {
 
     /// Writes the n-th enabled event, from 0.
     pub(crate) fn enabled(&self, n: u32, out: &mut DineEvent) -> i64
-        ensures { ForEachWorld self.now
+        ensures event { ForEachWorld self.now
             (λ plan world. MatchOption (slice_get (enabled_events plan world) n)
             ((result ≡ no_such) × (out.new ≡ out.old))
             (λ event. (result ≡ done) × (out.new ≡ seen_event event.site event.kind))) }
+        ensures unwritten { IsDoneOr result Unit (out.new ≡ out.old) }
     {
         match self.world.enabled(n) {
             Some(event) => {
@@ -132,10 +133,11 @@ impl OwnWorld {
 
     /// Writes the periods of the log of the edge's fork, and returns how many there are.
     pub(crate) fn periods(&self, edge: u32, out: &mut [u32]) -> i64
-        ensures { ForEachWorld self.now
+        ensures periods { ForEachWorld self.now
             (λ plan world. MatchOption (slice_get (forks_seen plan world) edge)
             ((result ≡ no_such) × (out.new ≡ out.old))
             (λ fork. ArePeriods fork out.old out.new result)) }
+        ensures unwritten { IsDoneOr result Unit (out.new ≡ out.old) }
     {
         match self.world.fork(edge) {
             Some(fork) => write_periods(fork, out),

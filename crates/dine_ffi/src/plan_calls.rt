@@ -2,7 +2,7 @@
 ghost use Rattle.std.specs.Prelude.{◌≡◌, ◌≢◌, MatchOption, None, Some, length, pos};
 ghost use Rattle.dine_graph.specs.Plan.{edge_count, hi_of, job_count, lo_of, name_of, site_count};
 ghost use Rattle.dine_reader.specs.PlanOf.{IsPlanOf};
-ghost use Rattle.dine_ffi.specs.Answers.{IsDoneOr, IsWithin, closed, done, memory, open_already};
+ghost use Rattle.dine_ffi.specs.Answers.{IsDoneOr, IsOkOr, IsWithin, closed, done, memory, open_already};
 ghost use Rattle.dine_ffi.specs.Refusals.{IsRefusedFor, RefusalIs, plan_status};
 ghost use Rattle.dine_ffi.specs.Things.{HoldsPlan, OfHeld, OfPlan};
 ghost use Rattle.dine_ffi.specs.Written.{over_front};
@@ -17,7 +17,7 @@ use std::alloc::Global;
 /// Reads the plan whose text the bytes are. The handle, which is closed, holds it then.
 #[unsafe(no_mangle)]
 pub extern "C" fn dine_raw_plan_open(alloc: Global, text: &[u8], handle: &mut Handle) -> i64
-    ensures plan { IsDoneOr result (HoldsPlan (IsPlanOf text.now) handle.new.slot.held)
+    ensures plan { IsOkOr result (HoldsPlan (IsPlanOf text.now) handle.new.slot.held)
         (handle.new.slot.held ≡ handle.old.slot.held) }
     ensures open { handle.old.slot.held ≢ None → result ≡ open_already }
     ensures refused { handle.old.slot.held ≡ None → IsDoneOr result Unit
@@ -45,7 +45,7 @@ pub extern "C" fn dine_raw_plan_refusal(alloc: Global, text: &[u8], out: &mut [u
 // The handle, which is closed, holds this.
 pub(crate) fn open(alloc: Global, kept: Kept, handle: &mut Handle) -> i64
     requires { handle.old.slot.held ≡ None }
-    ensures handle { IsDoneOr result (handle.new.slot.held ≡ Some (record { kept = kept }))
+    ensures handle { IsOkOr result (handle.new.slot.held ≡ Some (record { kept = kept }))
         (handle.new.slot.held ≡ handle.old.slot.held) }
     ensures memory { IsDoneOr result Unit (result ≡ memory) }
 {
@@ -154,6 +154,7 @@ pub extern "C" fn dine_raw_plan_name(
     ensures answer { OfHeld handle.old.slot.held result (λ kept. OfPlan kept result
         (λ plan. IsWithin site (site_count plan) result ((result ≡ pos (length (name_of plan site)))
         × (out.new ≡ over_front (name_of plan site) out.old)))) }
+    ensures unwritten { IsDoneOr result Unit (out.new ≡ out.old) }
 {
     let Some(thing) = handle.take(alloc) else {
         return CLOSED;
@@ -178,6 +179,7 @@ pub extern "C" fn dine_raw_plan_ends(
     ensures answer { OfHeld handle.old.slot.held result (λ kept. OfPlan kept result
         (λ plan. IsWithin edge (edge_count plan) result ((result ≡ done)
         × (out.new ≡ record { lower = lo_of plan edge; higher = hi_of plan edge })))) }
+    ensures unwritten { IsDoneOr result Unit (out.new ≡ out.old) }
 {
     let Some(thing) = handle.take(alloc) else {
         return CLOSED;

@@ -6,8 +6,8 @@ ghost use Rattle.dine_token.specs.Fork.{SeenFork};
 ghost use Rattle.dine_wire.specs.Arrivals.{MayCarryOn, carried_on};
 ghost use Rattle.dine_wire.specs.Notes.{fork_note};
 ghost use Rattle.dine_rules.specs.declared.breach.Breach.{Breach as SeenBreach};
-ghost use Rattle.dine_ffi.specs.Answers.{IsNoLetter, IsRefused, breach_status, memory};
-ghost use Rattle.dine_ffi.specs.Shelves.{AwaitsFork, IsForkBreach, IsNotCarriedOn, first_kept, kept_at, put_away};
+ghost use Rattle.dine_ffi.specs.Answers.{IsRefused, breach_status};
+ghost use Rattle.dine_ffi.specs.Shelves.{AwaitsFork, IsForkBreach, IsNotTakenBack, first_kept, kept_at, put_away};
 
 use crate::status::{NO_SUCH, breach_status, wire_status};
 use dine_graph::Plan;
@@ -75,8 +75,7 @@ pub(crate) fn take_back(
         (λ status. (status ≡ pos 0 → ⊥) × (shelf.new.items ≡ shelf.old.items)) }
     ensures refused { MatchResult result (λ _. Unit {0}) IsRefused }
     ensures why { MatchResult result (λ _. Unit {0})
-        (λ status. i < length shelf.old.items → (status ≡ memory)
-        ⊎ (IsNoLetter status × IsNotCarriedOn plan.now (kept_at i shelf.old.items) note)) }
+        (λ status. i < length shelf.old.items → IsNotTakenBack plan.now (kept_at i shelf.old.items) note status) }
 {
     let i = i as usize;
     if shelf.len() <= i {

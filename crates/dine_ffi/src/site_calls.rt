@@ -5,10 +5,11 @@ ghost use Rattle.dine_rules.specs.Local.{edge_at};
 ghost use Rattle.dine_rules.specs.Steps as step;
 ghost use Rattle.dine_site_core.specs.NextEvent.{next_of};
 ghost use Rattle.dine_site_core.specs.Places.{hand_of, has_all_said, is_held, neighbour_of, place_at};
-ghost use Rattle.dine_ffi.specs.Answers.{IsDoneOr, IsWithin, Reports, done, memory, no_such, number_of, open_already};
+ghost use Rattle.dine_ffi.specs.Answers.{IsDoneOr, IsOkOr, IsWithin, Reports, done, memory, no_such};
+ghost use Rattle.dine_ffi.specs.Answers.{number_of, open_already};
 ghost use Rattle.dine_ffi.specs.Events.{seen_event};
-ghost use Rattle.dine_ffi.specs.OwnSites.{BeginsOrRefuses, EndsOrRefuses, IsNoPlace, IsOpened, PutsOrRefuses};
-ghost use Rattle.dine_ffi.specs.OwnSites.{StepsOrRefuses, TakesOrRefuses};
+ghost use Rattle.dine_ffi.specs.OwnSites.{ActsOrRefuses, BeginsOrRefuses, EndsOrRefuses, IsNoPlace, IsOpened};
+ghost use Rattle.dine_ffi.specs.OwnSites.{PutsOrRefuses, StepsOrRefuses, TakesOrRefuses, is_used};
 ghost use Rattle.dine_ffi.specs.Things.{HoldsPlan, HoldsSite, OfHeld, OfPlan, OfSite, OnPlan, SiteCall};
 ghost use Rattle.dine_ffi.specs.Written.{ArePeriods};
 
@@ -31,7 +32,7 @@ pub extern "C" fn dine_raw_site_open(
     site: &mut Handle,
 ) -> i64
     ensures plan { plan.new.slot.held ≡ plan.old.slot.held }
-    ensures site { IsDoneOr result
+    ensures site { IsOkOr result
         (HoldsPlan (λ p. HoldsSite (IsOpened p number) site.new.slot.held) plan.old.slot.held)
         (site.new.slot.held ≡ site.old.slot.held) }
     ensures open { site.old.slot.held ≢ None → result ≡ open_already }
@@ -51,7 +52,7 @@ pub extern "C" fn dine_raw_site_open(
 
 fn open_site(alloc: Global, thing: &Thing, number: u32, handle: &mut Handle) -> i64
     requires { handle.old.slot.held ≡ None }
-    ensures site { IsDoneOr result
+    ensures site { IsOkOr result
         (OnPlan (λ p. HoldsSite (IsOpened p number) handle.new.slot.held) thing.now.kept)
         (handle.new.slot.held ≡ handle.old.slot.held) }
     ensures refused { IsDoneOr result Unit (OfPlan thing.now.kept result
@@ -65,7 +66,7 @@ fn open_site(alloc: Global, thing: &Thing, number: u32, handle: &mut Handle) -> 
 
 fn open_site_of(alloc: Global, plan: &OwnPlan, number: u32, handle: &mut Handle) -> i64
     requires { handle.old.slot.held ≡ None }
-    ensures site { IsDoneOr result
+    ensures site { IsOkOr result
         (HoldsSite (IsOpened plan.now number) handle.new.slot.held)
         (handle.new.slot.held ≡ handle.old.slot.held) }
     ensures refused { IsDoneOr result Unit (IsWithin number (site_count plan.now) result (result ≡ memory)) }
@@ -97,6 +98,7 @@ pub extern "C" fn dine_raw_site_state(
           degree = length own.core.places;
           finished = if has_all_said own.core then 1 else 0;
         }))) }
+    ensures unwritten { IsDoneOr result Unit (out.new ≡ out.old) }
 {
     let Some(thing) = handle.take(alloc) else {
         return CLOSED;
@@ -126,8 +128,10 @@ pub extern "C" fn dine_raw_site_place(
               (place_at own.core i);
           has_fork = if is_held (place_at own.core i).fork then 1 else 0;
           has_token = if is_some (place_at own.core i).token then 1 else 0;
+          is_dirty = if is_used (place_at own.core i).fork then 1 else 0;
         })) ((result ≡ no_such)
         × (out.new ≡ out.old) × IsNoPlace i own))) }
+    ensures unwritten { IsDoneOr result Unit (out.new ≡ out.old) }
 {
     let Some(thing) = handle.take(alloc) else {
         return CLOSED;
@@ -147,6 +151,7 @@ pub extern "C" fn dine_raw_site_next(alloc: Global, handle: &mut Handle, out: &m
     ensures answer { OfHeld handle.old.slot.held result (λ kept. OfSite kept result
         (λ own. MatchOption (next_of own.core) ((result ≡ pos 0) × (out.new ≡ out.old)) (λ kind. (result ≡ pos 1)
         × (out.new ≡ seen_event own.core.site kind)))) }
+    ensures unwritten { IsDoneOr result Unit (out.new ≡ out.old) }
 {
     let Some(thing) = handle.take(alloc) else {
         return CLOSED;
@@ -201,6 +206,7 @@ pub extern "C" fn dine_raw_site_give(
 ) -> i64
     ensures becomes { SiteCall (PutsOrRefuses i (step.Give i) out.old out.new) result
         handle.old.slot.held handle.new.slot.held }
+    ensures unwritten { IsDoneOr result Unit (out.new ≡ out.old) }
 {
     let Some(mut thing) = handle.take(alloc) else {
         return CLOSED;
@@ -223,6 +229,7 @@ pub extern "C" fn dine_raw_site_ask(
 ) -> i64
     ensures becomes { SiteCall (PutsOrRefuses i (step.Ask i) out.old out.new) result
         handle.old.slot.held handle.new.slot.held }
+    ensures unwritten { IsDoneOr result Unit (out.new ≡ out.old) }
 {
     let Some(mut thing) = handle.take(alloc) else {
         return CLOSED;
@@ -245,6 +252,7 @@ pub extern "C" fn dine_raw_site_done(
 ) -> i64
     ensures becomes { SiteCall (PutsOrRefuses i (step.Done i) out.old out.new) result
         handle.old.slot.held handle.new.slot.held }
+    ensures unwritten { IsDoneOr result Unit (out.new ≡ out.old) }
 {
     let Some(mut thing) = handle.take(alloc) else {
         return CLOSED;
@@ -267,6 +275,7 @@ pub extern "C" fn dine_raw_site_shut(
 ) -> i64
     ensures becomes { SiteCall (PutsOrRefuses i (step.Close i) out.old out.new) result
         handle.old.slot.held handle.new.slot.held }
+    ensures unwritten { IsDoneOr result Unit (out.new ≡ out.old) }
 {
     let Some(mut thing) = handle.take(alloc) else {
         return CLOSED;
@@ -290,12 +299,37 @@ pub extern "C" fn dine_raw_site_break(
 ) -> i64
     ensures becomes { SiteCall (PutsOrRefuses i (step.Break i) out.old out.new) result
         handle.old.slot.held handle.new.slot.held }
+    ensures unwritten { IsDoneOr result Unit (out.new ≡ out.old) }
 {
     let Some(mut thing) = handle.take(alloc) else {
         return CLOSED;
     };
     let answer = match &mut thing.kept {
         Kept::Site(site) => site.put(PutKind::Break, i, out),
+        Kept::Plan(_) | Kept::World(_) => OTHER_KIND,
+    };
+    handle.put(thing);
+    answer
+}
+
+/// Does the event, if it is one of this site and no Take. Writes the letter that it puts, and returns the number of its
+/// bytes, or 0 if it puts none. An End is that of a job that went well.
+#[unsafe(no_mangle)]
+pub extern "C" fn dine_raw_site_act(
+    alloc: Global,
+    handle: &mut Handle,
+    event: &DineEvent,
+    out: &mut [u8],
+) -> i64
+    ensures becomes { SiteCall (ActsOrRefuses event.now out.old out.new) result
+        handle.old.slot.held handle.new.slot.held }
+    ensures unwritten { IsDoneOr result Unit (out.new ≡ out.old) }
+{
+    let Some(mut thing) = handle.take(alloc) else {
+        return CLOSED;
+    };
+    let answer = match &mut thing.kept {
+        Kept::Site(site) => site.act(*event, out),
         Kept::Plan(_) | Kept::World(_) => OTHER_KIND,
     };
     handle.put(thing);
@@ -363,6 +397,7 @@ pub extern "C" fn dine_raw_site_fork(
     ensures answer { OfHeld handle.old.slot.held result (λ kept. OfSite kept result
         (λ own. MatchOption (hand_of (place_at own.core i).fork) ((result ≡ no_such) × (out.new ≡ out.old))
         (λ fork. ArePeriods fork out.old out.new result))) }
+    ensures unwritten { IsDoneOr result Unit (out.new ≡ out.old) }
 {
     let Some(thing) = handle.take(alloc) else {
         return CLOSED;

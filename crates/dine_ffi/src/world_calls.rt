@@ -4,7 +4,7 @@ ghost use Rattle.dine_rules.specs.Bound.{bound_of};
 ghost use Rattle.dine_rules.specs.Schedules.{finish_within, from_here, replay};
 ghost use Rattle.dine_rules.specs.World.{IsComplete, enabled_events, start};
 ghost use Rattle.dine_core.specs.Worlds.{ForEachWorld, IsWorldOf, RunsTo, forks_seen};
-ghost use Rattle.dine_ffi.specs.Answers.{IsDoneOr, Reports, done, memory, no_such, number_of, open_already};
+ghost use Rattle.dine_ffi.specs.Answers.{IsDoneOr, IsOkOr, Reports, done, memory, no_such, number_of, open_already};
 ghost use Rattle.dine_ffi.specs.Events.{kind_numbered, seen_event};
 ghost use Rattle.dine_ffi.specs.Things.{HoldsPlan, HoldsWorld, OfHeld, OfPlan, OfWorld, OnPlan, StepsWorldOrRefuses};
 ghost use Rattle.dine_ffi.specs.Things.{WorldCall};
@@ -22,7 +22,7 @@ use std::alloc::Global;
 #[unsafe(no_mangle)]
 pub extern "C" fn dine_raw_world_open(alloc: Global, plan: &mut Handle, world: &mut Handle) -> i64
     ensures plan { plan.new.slot.held ≡ plan.old.slot.held }
-    ensures world { IsDoneOr result
+    ensures world { IsOkOr result
         (HoldsPlan (λ p. HoldsWorld (IsWorldOf p (start p)) world.new.slot.held) plan.old.slot.held)
         (world.new.slot.held ≡ world.old.slot.held) }
     ensures open { world.old.slot.held ≢ None → result ≡ open_already }
@@ -42,7 +42,7 @@ pub extern "C" fn dine_raw_world_open(alloc: Global, plan: &mut Handle, world: &
 
 fn open_world(alloc: Global, thing: &Thing, handle: &mut Handle) -> i64
     requires { handle.old.slot.held ≡ None }
-    ensures world { IsDoneOr result
+    ensures world { IsOkOr result
         (OnPlan (λ p. HoldsWorld (IsWorldOf p (start p)) handle.new.slot.held) thing.now.kept)
         (handle.new.slot.held ≡ handle.old.slot.held) }
     ensures refused { IsDoneOr result Unit (OfPlan thing.now.kept result (λ _. result ≡ memory)) }
@@ -105,6 +105,7 @@ pub extern "C" fn dine_raw_world_enabled(
         (λ w. ForEachWorld w (λ plan world. MatchOption (slice_get (enabled_events plan world) n)
         ((result ≡ no_such) × (out.new ≡ out.old)) (λ event. (result ≡ done)
         × (out.new ≡ seen_event event.site event.kind))))) }
+    ensures unwritten { IsDoneOr result Unit (out.new ≡ out.old) }
 {
     let Some(thing) = handle.take(alloc) else {
         return CLOSED;
@@ -223,6 +224,7 @@ pub extern "C" fn dine_raw_world_fork(
     ensures answer { OfHeld handle.old.slot.held result (λ kept. OfWorld kept result
         (λ w. ForEachWorld w (λ plan world. MatchOption (slice_get (forks_seen plan world) edge)
         ((result ≡ no_such) × (out.new ≡ out.old)) (λ fork. ArePeriods fork out.old out.new result)))) }
+    ensures unwritten { IsDoneOr result Unit (out.new ≡ out.old) }
 {
     let Some(thing) = handle.take(alloc) else {
         return CLOSED;

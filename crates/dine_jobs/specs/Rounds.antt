@@ -3,17 +3,17 @@ use Rattle.std.specs.Prelude.{◌≡◌, ℕ, zero, suc, ◌+◌, Bool, List, ma
 use Rattle.std.specs.Borrow.{MutBor}
 use Rattle.std.specs.Global.{Vec}
 use Rattle.dine_graph.specs.Plan.{SeenPlan}
-use Rattle.dine_site.specs.declared.manner.Manner.TheVariants.{Polite}
+use Rattle.dine_site.specs.declared.manner.Manner.TheVariants.{Patient}
 use Rattle.dine_jobs.specs.declared.done.JobsDone.{JobsDone}
 use Rattle.dine_jobs.specs.declared.done.SiteDone.{SiteDone}
 use Rattle.dine_jobs.specs.declared.edge_value.EdgeValue.{EdgeValue}
 use Rattle.dine_jobs.specs.JobRuns.{IsDoneRun}
 
--- a run of these values and jobs that went well, with polite sites, left these values and jobs; F is what a failed job
--- returns
+-- a run of these values and jobs that went well, with sites of patience 64, left these values and jobs; F is what a
+-- failed job returns
 pub record IsRoundOf {T J : Type 0} (F : Type 0) (after : J → ℕ → Bool → J → Type 0) (plan : SeenPlan) (values : Vec T) (jobs : Vec J) (values_left : List T) (jobs_left : List J) : Type 0 where
   pub left : JobsDone T J F
-  pub ran : IsDoneRun after Polite plan values jobs left
+  pub ran : IsDoneRun after (Patient 64) plan values jobs left
   pub values_back : values_left ≡ map (λ (it : EdgeValue T). it.value) left.values.items
   pub jobs_back : jobs_left ≡ map (λ (site : SiteDone J F). site.job) left.sites.items
 
@@ -31,7 +31,7 @@ module _ {S T J F : Type 0} (took : S → ℕ → MutBor (List T) → MutBor (Li
   -- n rounds, the first of them with number k, each of which went well and was followed by a call of the step with its
   -- number, the values and the jobs that it left; and then a last round, which left `done`
   abbrev pub HasRounds : ℕ → ℕ → S → Vec T → Vec J → JobsDone T J F → Type 0
-  HasRounds zero k step values jobs done = IsDoneRun after Polite plan values jobs done
+  HasRounds zero k step values jobs done = IsDoneRun after (Patient 64) plan values jobs done
   HasRounds (suc n) k step values jobs done =
       (values_left : List T) × (jobs_left : List J) × IsRoundOf F after plan values jobs values_left jobs_left
       × (next : S) × (next_values : Vec T) × (next_jobs : Vec J)

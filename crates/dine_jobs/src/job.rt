@@ -4,6 +4,7 @@ ghost use Rattle.dine_graph.specs.Plan.{SeenPlan};
 ghost use Rattle.dine_site.specs.WholeMeals.{IsOwnMeal, IsWhole};
 
 use crate::table::Table;
+use std::sync::Wait;
 
 /// Does the jobs of a site, which shares a `T` with each neighbour. It may be dropped, and moves into the thread of its
 /// site.
@@ -17,6 +18,12 @@ pub trait Job<T: Drop>: Drop + Send {
 
     // That it expects to run in this plan, at this site. If a job does not define it, it holds of each plan and site.
     ghost expects: { Self → SeenPlan → ℕ → Type 0 } = { λ _ _ _. Unit {0} };
+
+    /// Returns whether the site is called to its next job now. Only a site that is on call asks, while it thinks
+    /// (`Diner::is_called`). A job that does not define it always is.
+    fn is_called<R: Wait>(&self, _rt: &R) -> bool {
+        true
+    }
 
     /// Does job `table.k()` of site `table.site()`, while the site holds the forks of all its edges.
     ///

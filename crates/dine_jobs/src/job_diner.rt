@@ -18,7 +18,7 @@ use dine_site::{CallLog, Diner, JobFault};
 use dine_token::Meal;
 use std::alloc::{AllocError, Global};
 use std::marker::PhantomData;
-use std::sync::Arc;
+use std::sync::{Arc, Wait};
 
 /// Does the jobs of a site by a [`Job`], with the values that it shares. It keeps each call, and why each job failed
 /// that did.
@@ -128,6 +128,10 @@ impl<T: Drop + Send, J: Job<T>, K: Given<J> + Send> Diner for JobDiner<T, J, K> 
 
     fn room(&self) -> u32 {
         self.log.room()
+    }
+
+    fn is_called<R: Wait>(&self, rt: &R) -> bool {
+        self.job.is_called(rt)
     }
 
     fn eat(&mut self, k: u32, meal: &Meal) -> Result<(), JobFault> {

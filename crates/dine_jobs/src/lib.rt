@@ -4,21 +4,27 @@
 
 mod done;
 mod edge_value;
+mod executor;
 mod given;
 mod job;
 mod job_diner;
+mod open_runs;
 mod open_value;
 mod places;
 mod rounds;
 mod runs;
 mod table;
+mod ticket;
 mod values;
 
 pub use done::{JobsCause, JobsDone, JobsFault, SiteDone};
 pub use edge_value::EdgeValue;
+pub use executor::{Executor, SubmitError, Task, Worker};
 pub use job::{Failure, Job};
+pub use open_runs::{run_open, run_open_with};
 pub use open_value::OpenValue;
 pub use places::Place;
 pub use rounds::run_rounds;
-pub use runs::{no_values, on_channels, on_rings, run_jobs, run_jobs_with};
+pub use runs::{no_values, on_channels, on_rings, run_jobs, run_jobs_at, run_jobs_with};
 pub use table::{OpenFault, Table};
+pub use ticket::{Ticket, TicketError};

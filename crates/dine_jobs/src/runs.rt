@@ -14,9 +14,9 @@ use crate::job::Job;
 use crate::job_diner::{JobDiner, open_diners};
 use crate::values::{Spare, Values};
 use dine_graph::Plan;
-use dine_link::{ChannelLane, Lane, RingLane};
+use dine_link::{ChannelLane, Doorbell, Lane, RingLane};
 use dine_site::{Manner, SiteFault};
-use dine_threads::{Gathered, RunCause, RunFault, RunOptions, SiteOut, run_with};
+use dine_threads::{Gathered, RunCause, RunFault, RunOptions, SiteOut, run_with_doorbells};
 use std::alloc::{AllocError, Global};
 use std::marker::Brand;
 use std::sync::{Arc, Wait};
@@ -54,8 +54,38 @@ where
     ensures ok { IfOk result (IsDoneRun J.after options.manner plan.now values jobs) }
     ensures fault { IfErr result (IsFaultOf plan.now values jobs) }
 {
+    run_jobs_at::<L, T, J>(rt, alloc, plan, values, jobs, &[], options)
+}
+
+/// Runs the jobs of a plan, as [`run_jobs_with`] does, and wires the doorbell of each site, by number, to its bell
+/// before the first thread starts. So the sites may be on call, and are rung when their jobs are called
+/// ([`Job::is_called`]).
+///
+/// # Errors
+///
+/// Those of [`run_jobs_with`].
+pub fn run_jobs_at<L, T, J>(
+    rt: &(impl Threads + Wait + Copy + Send + 'static),
+    alloc: Global,
+    plan: &Plan,
+    values: Vec<T>,
+    jobs: Vec<J>,
+    doorbells: &[Doorbell],
+    options: RunOptions,
+) -> Result<JobsDone<T, J>, JobsFault<T, J>>
+where
+    L: Lane + 'static,
+    L::Tx: 'static,
+    L::ClosedTx: 'static,
+    L::Rx: 'static,
+    T: Drop + Send + 'static,
+    J: Job<T> + 'static,
+    requires expected { HaveJobSites J.expects plan.now jobs }
+    ensures ok { IfOk result (IsDoneRun J.after options.manner plan.now values jobs) }
+    ensures fault { IfErr result (IsFaultOf plan.now values jobs) }
+{
     let (values, jobs) = counted(plan, values, jobs)?;
-    run_given::<L, T, J, Brand>(rt, alloc, plan, values, jobs, options)
+    run_given::<L, T, J, Brand>(rt, alloc, plan, values, jobs, doorbells, options)
 }
 
 // Returns the values and the jobs if there are as many of them as edges and sites, and otherwise a fault with them.
@@ -100,6 +130,7 @@ fn run_given<L, T, J, K>(
     plan: &Plan,
     values: Vec<T>,
     jobs: Vec<J>,
+    doorbells: &[Doorbell],
     options: RunOptions,
 ) -> Result<JobsDone<T, J>, JobsFault<T, J>>
 where
@@ -135,7 +166,10 @@ where
     ) else {
         return Err(fault_of_shared(JobsCause::Memory, values, spare, back));
     };
-    let (cause, jobs) = match run_with::<L, JobDiner<T, J, K>>(rt, alloc, plan, diners, options) {
+    let ran = run_with_doorbells::<L, JobDiner<T, J, K>>(
+        rt, alloc, plan, diners, doorbells, options,
+    );
+    let (cause, jobs) = match ran {
         Ok(gathered) => return finish(gathered, room, values, spare, back),
         Err(fault) => {
             let cause = cause_of(plan, RunCause::from(&fault));
@@ -320,8 +354,9 @@ fn fault_of_locked<T: Drop, J: Drop>(
     }
 }
 
-/// Runs the jobs of a plan, as [`run_jobs_with`] does, in the way that suits most programs: with polite sites and with
-/// letters over rings, which is the faster kind of links.
+/// Runs the jobs of a plan, as [`run_jobs_with`] does, in the way that suits most programs: with the options of
+/// `RunOptions::default()`, so that a neighbour that has rung waits for at most 64 meals, and with letters over rings,
+/// which is the faster kind of links.
 pub fn run_jobs<T, J>(
     rt: &(impl Threads + Wait + Copy + Send + 'static),
     alloc: Global,
@@ -333,10 +368,10 @@ where
     T: Drop + Send + 'static,
     J: Job<T> + 'static,
     requires expected { HaveJobSites J.expects plan.now jobs }
-    ensures ok { IfOk result (IsDoneRun J.after Manner.Polite plan.now values jobs) }
+    ensures ok { IfOk result (IsDoneRun J.after (Manner.Patient 64) plan.now values jobs) }
     ensures fault { IfErr result (IsFaultOf plan.now values jobs) }
 {
-    run_jobs_with::<RingLane, T, J>(rt, alloc, plan, values, jobs, RunOptions::polite())
+    run_jobs_with::<RingLane, T, J>(rt, alloc, plan, values, jobs, RunOptions::default())
 }
 
 /// [`run_jobs`] under a name that says which links it uses: rings.
@@ -351,7 +386,7 @@ where
     T: Drop + Send + 'static,
     J: Job<T> + 'static,
     requires expected { HaveJobSites J.expects plan.now jobs }
-    ensures ok { IfOk result (IsDoneRun J.after Manner.Polite plan.now values jobs) }
+    ensures ok { IfOk result (IsDoneRun J.after (Manner.Patient 64) plan.now values jobs) }
     ensures fault { IfErr result (IsFaultOf plan.now values jobs) }
 {
     run_jobs::<T, J>(rt, alloc, plan, values, jobs)
@@ -369,10 +404,10 @@ where
     T: Drop + Send + 'static,
     J: Job<T> + 'static,
     requires expected { HaveJobSites J.expects plan.now jobs }
-    ensures ok { IfOk result (IsDoneRun J.after Manner.Polite plan.now values jobs) }
+    ensures ok { IfOk result (IsDoneRun J.after (Manner.Patient 64) plan.now values jobs) }
     ensures fault { IfErr result (IsFaultOf plan.now values jobs) }
 {
-    run_jobs_with::<ChannelLane, T, J>(rt, alloc, plan, values, jobs, RunOptions::polite())
+    run_jobs_with::<ChannelLane, T, J>(rt, alloc, plan, values, jobs, RunOptions::default())
 }
 
 /// The values of jobs that share nothing: one for each edge, each of no bytes.

@@ -14,6 +14,8 @@ mod faults;
 #[cfg(test)]
 mod manners;
 #[cfg(test)]
+mod opened;
+#[cfg(test)]
 mod plans;
 #[cfg(test)]
 mod rounds;

@@ -1,7 +1,7 @@
-// Polite runs of jobs over values.
+// Polite, patient and greedy runs of jobs over values.
 use crate::asserts::same;
 use crate::plans::band_of;
-use crate::runs::{Links, all_did};
+use crate::runs::{BOTH, Links, all_did};
 use dine_run::{
     ChannelLane, EdgeValue, Job, JobFault, JobsDone, Place, Plan, RingLane, RunOptions, Table,
     run_jobs_with,
@@ -43,21 +43,21 @@ fn fresh(rt: &impl Abort, alloc: Global, plan: &Plan) -> (Vec<u64>, Vec<Counter>
     (values, jobs)
 }
 
-// Runs the jobs politely over links of a kind.
-fn ran_politely<R: Threads + Wait + Abort + Copy + Send + 'static>(
+// Runs the jobs over links of a kind.
+fn ran_so<R: Threads + Wait + Abort + Copy + Send + 'static>(
     rt: &R,
     alloc: Global,
     plan: &Plan,
     links: Links,
+    options: RunOptions,
 ) -> JobsDone<u64, Counter> {
     let (values, jobs) = fresh(rt, alloc, plan);
-    let polite = RunOptions::polite();
     let done = match links {
         Links::Channels => {
-            run_jobs_with::<ChannelLane, u64, Counter>(rt, alloc, plan, values, jobs, polite)
+            run_jobs_with::<ChannelLane, u64, Counter>(rt, alloc, plan, values, jobs, options)
         }
         Links::Rings => {
-            run_jobs_with::<RingLane, u64, Counter>(rt, alloc, plan, values, jobs, polite)
+            run_jobs_with::<RingLane, u64, Counter>(rt, alloc, plan, values, jobs, options)
         }
     };
     done.expect(rt, "a run")
@@ -70,9 +70,14 @@ fn are_sums(rt: &impl Abort, values: &[EdgeValue<u64>]) {
     }
 }
 
-fn adds_up<R: Threads + Wait + Abort + Copy + Send + 'static>(rt: &R, alloc: Global, links: Links) {
+fn adds_up<R: Threads + Wait + Abort + Copy + Send + 'static>(
+    rt: &R,
+    alloc: Global,
+    links: Links,
+    options: RunOptions,
+) {
     let plan = band_of(rt, alloc, SITES, JOBS);
-    let done = ran_politely(rt, alloc, &plan, links);
+    let done = ran_so(rt, alloc, &plan, links, options);
     are_sums(rt, done.values.as_slice());
     all_did(rt, done.sites.as_slice(), JOBS, 0);
     same(
@@ -82,16 +87,30 @@ fn adds_up<R: Threads + Wait + Abort + Copy + Send + 'static>(rt: &R, alloc: Glo
     );
 }
 
-#[test]
-fn polite_jobs_add_up_over_channels(rt: HostRuntime) {
+// Runs the jobs several times over each kind of links.
+fn add_up<R: Threads + Wait + Abort + Copy + Send + 'static>(
+    rt: &R,
+    alloc: Global,
+    options: RunOptions,
+) {
     for _ in 0..RUNS {
-        adds_up(&rt, rt.alloc(), Links::Channels);
+        for links in BOTH {
+            adds_up(rt, alloc, links, options);
+        }
     }
 }
 
 #[test]
-fn polite_jobs_add_up_over_rings(rt: HostRuntime) {
-    for _ in 0..RUNS {
-        adds_up(&rt, rt.alloc(), Links::Rings);
-    }
+fn polite_jobs_add_up(rt: HostRuntime) {
+    add_up(&rt, rt.alloc(), RunOptions::polite())
+}
+
+#[test]
+fn patient_jobs_add_up(rt: HostRuntime) {
+    add_up(&rt, rt.alloc(), RunOptions::patience(3))
+}
+
+#[test]
+fn greedy_jobs_add_up(rt: HostRuntime) {
+    add_up(&rt, rt.alloc(), RunOptions::greedy())
 }

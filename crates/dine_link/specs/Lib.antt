@@ -8,4 +8,5 @@ pub mod Ends
 pub mod Bells
 pub mod Rings
 pub mod Waking
+pub mod Deeds
 pub mod private

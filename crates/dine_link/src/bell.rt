@@ -1,6 +1,7 @@
 // A bell: its owner waits for rings, and each of its ringers rings with a number of its own.
-ghost use Rattle.std.specs.Prelude.{◌≡◌, ◌<◌, ◌*◌, [], IfOk, IfSome, MatchOption, MatchResult, length, map, max};
-ghost use Rattle.std.specs.Prelude.{true};
+ghost use Rattle.std.specs.Prelude.{◌≡◌, ◌<◌, ◌*◌, ◌++◌, ◌∷◌, [], IfOk, IfSome, length, map, max};
+ghost use Rattle.std.specs.Prelude.{MatchOption, MatchResult};
+ghost use Rattle.std.specs.Prelude.{false, true};
 ghost use Rattle.std.specs.List.{range_with_len};
 ghost use Rattle.crossbeam_channel.specs.Claims.{view, IsSeatAt};
 ghost use Rattle.crossbeam_channel.specs.Ends.{receives_on, sends_on};
@@ -9,11 +10,15 @@ ghost use Rattle.dine_link.specs.Waking.{NotesRing};
 ghost use Rattle.dine_link.specs.Bells.{BellId, new_ringer, after_ring, after_refused_ring, new_bell, after_report};
 ghost use Rattle.dine_link.specs.Bells.{after_empty_check, after_refused_wait};
 ghost use Rattle.dine_link.specs.declared.bell_rule.Part.TheVariants.{Waits};
+ghost use Rattle.dine_link.specs.declared.deed.Deed.TheVariants.{FoundNone, Heard, Rang, Slept};
+ghost use Rattle.dine_link.specs.Deeds.{HasRungFor, HasWaited};
 
 use crate::bell_rule::{Hears, NextRinger, OfRingers, Part, Sounds};
+use crate::deed::Deed;
 use crate::empty_checks::EmptyChecks;
 use crate::faults::{LinkFault, Lost};
 use crate::sleeper::{SleepState, Sleeper, Waker};
+use crate::thread_log::ThreadLog;
 use crate::wants::Wants;
 use crossbeam_channel::{Pass, RuledReceiver, RuledSender, TrySendError, bounded_with};
 use dine_rules::{Clock, Kind4};
@@ -123,26 +128,39 @@ impl Bell {
             (λ number. self.new ≡ after_report number self.old)
             (λ _. self.new ≡ after_refused_wait self.old) }
     {
-        self.wait_for(rt, Wants::anything())
+        let mut unread = ThreadLog::start();
+        self.wait_for(rt, Wants::anything(), &mut unread)
     }
 
     /// Returns the number of a ringer that rang, as [`Bell::wait`] does, except that fewer rings wake it. While it
     /// sleeps it is woken by a ring that it wants, by a ring that is for no letter ([`Ringer::ring`]), and by the ring
     /// that fills its capacity. It keeps any other ring until then, and reports it in its turn.
     ///
+    /// The log notes the ring that it reports, and before that whether it fell asleep.
+    ///
     /// # Errors
     ///
     /// `Lost`, as [`Bell::wait`].
-    pub fn wait_for<R: Wait>(&mut self, rt: &R, wants: Wants) -> Result<u32, Lost>
+    pub fn wait_for<R: Wait>(
+        &mut self,
+        rt: &R,
+        wants: Wants,
+        log: &mut ThreadLog,
+    ) -> Result<u32, Lost>
         ensures below { IfOk result (λ number. number < self.new.degree) }
         ensures reported { MatchResult result
             (λ number. self.new ≡ after_report number self.old)
             (λ _. self.new ≡ after_refused_wait self.old) }
+        ensures noted { MatchResult result
+            (λ number. HasWaited wants number log.old.deeds log.new.deeds)
+            (λ _. log.new.deeds ≡ log.old.deeds ++ Slept wants ∷ []) }
     {
         if let Some(number) = self.next_ring(rt) {
+            *log = log.after(&Deed::Heard(number));
             return Ok(number);
         }
-        if let Some(number) = self.fall_asleep(rt, wants) {
+        if let Some(number) = self.fall_asleep(rt, wants, log) {
+            *log = log.after(&Deed::Heard(number));
             return Ok(number);
         }
         self.sleeper.sleep(rt);
@@ -150,6 +168,7 @@ impl Bell {
             self.refused = true;
             return Err(Lost);
         };
+        *log = log.after(&Deed::Heard(number));
         Ok(number)
     }
 
@@ -164,18 +183,28 @@ impl Bell {
     }
 
     /// The same, by the site of the bell, which has a clock. Contracts then see of each check that found no ring left
-    /// how many events the site had done. It costs no more than [`Bell::try_wait`].
-    pub fn check<R: Wait>(&mut self, rt: &R, clock: &Clock) -> Option<u32>
+    /// how many events the site had done. The log notes the ring that it reports, or that there was none. It costs no
+    /// more than [`Bell::try_wait`].
+    pub fn check<R: Wait>(&mut self, rt: &R, clock: &Clock, log: &mut ThreadLog) -> Option<u32>
         ensures below { IfSome result (λ number. number < self.new.degree) }
         ensures reported { MatchOption result
             (self.new ≡ after_empty_check (length clock.now.events) self.old)
             (λ number. self.new ≡ after_report number self.old) }
+        ensures noted { MatchOption result
+            (log.new.deeds ≡ log.old.deeds ++ FoundNone ∷ [])
+            (λ number. log.new.deeds ≡ log.old.deeds ++ Heard number ∷ []) }
     {
-        let number = self.next_ring(rt);
-        if number.is_none() {
-            self.empty_checks = self.empty_checks.after(clock);
+        match self.next_ring(rt) {
+            None => {
+                self.empty_checks = self.empty_checks.after(clock);
+                *log = log.after(&Deed::FoundNone);
+                None
+            }
+            Some(number) => {
+                *log = log.after(&Deed::Heard(number));
+                Some(number)
+            }
         }
-        number
     }
 
     /// Returns the checks that found no ring left, which proofs alone read.
@@ -199,20 +228,31 @@ impl Bell {
 
     // The same, and if no ring is left, the bell is noted as asleep. A ringer sends its number and notes it under the
     // same lock, so each ring is either reported here or finds the bell asleep.
-    fn fall_asleep<R: Wait>(&mut self, rt: &R, wants: Wants) -> Option<u32>
+    fn fall_asleep<R: Wait>(&mut self, rt: &R, wants: Wants, log: &mut ThreadLog) -> Option<u32>
         ensures below { IfSome result (λ number. number < self.new.degree) }
         ensures reported { MatchOption result
             (self.new ≡ self.old)
             (λ number. self.new ≡ after_report number self.old) }
+        ensures slept { MatchOption result
+            (log.new.deeds ≡ log.old.deeds ++ Slept wants ∷ [])
+            (λ _. log.new.deeds ≡ log.old.deeds) }
     {
         let room = room_of(self.degree);
         let mut state = self.sleeper.state.lock(rt);
-        next_ring_or_sleep(rt, &self.receiver, &mut self.pass, &mut state, wants, room)
+        next_ring_or_sleep(
+            rt,
+            &self.receiver,
+            &mut self.pass,
+            &mut state,
+            wants,
+            room,
+            log,
+        )
     }
 }
 
 // Returns the number of a ringer that rang, if a ring is left to report. Only if none is left, the state notes that the
-// bell falls asleep, with these wants and with capacity for `room` rings.
+// bell falls asleep, with these wants and with capacity for `room` rings, and the log notes it.
 fn next_ring_or_sleep<R: Wait>(
     rt: &R,
     receiver: &RuledReceiver<u32, Part, OfRingers>,
@@ -220,6 +260,7 @@ fn next_ring_or_sleep<R: Wait>(
     state: &mut SleepState,
     wants: Wants,
     room: usize,
+    log: &mut ThreadLog,
 ) -> Option<u32>
     requires seated { IsSeatAt (receives_on receiver.now) pass.old }
     ensures seated { IsSeatAt (receives_on receiver.now) pass.new }
@@ -227,9 +268,13 @@ fn next_ring_or_sleep<R: Wait>(
     ensures noted { MatchOption result
         (state.new ≡ record { asleep = true; wants = wants; room = room })
         (λ _. state.new ≡ state.old) }
+    ensures slept { MatchOption result
+        (log.new.deeds ≡ log.old.deeds ++ Slept wants ∷ [])
+        (λ _. log.new.deeds ≡ log.old.deeds) }
 {
     let heard = receiver.try_recv_as::<Hears, R>(rt, pass).ok();
     if heard.is_none() {
+        *log = log.after_sleep(&wants);
         state.fall_asleep(wants, room);
     }
     heard
@@ -286,6 +331,20 @@ impl Ringer {
             (λ _. self.new ≡ after_ring self.old)
             (λ _. self.new ≡ after_refused_ring self.old) }
     {
+        self.send(rt)?;
+        let slept = self.waker.sleeper.state.lock(rt).wake();
+        // No log notes this ring: who rings for no letter does no step of a site.
+        let mut unread = ThreadLog::start();
+        self.waker.wake_if(slept, self.number, &mut unread);
+        Ok(())
+    }
+
+    // Sends the number. It may wait, if the bell has no capacity left.
+    fn send<R: Wait>(&mut self, rt: &R) -> Result<(), Lost>
+        ensures { MatchResult result
+            (λ _. self.new ≡ after_ring self.old)
+            (λ _. self.new ≡ after_refused_ring self.old) }
+    {
         let rung = self
             .sender
             .send_as::<Sounds, R>(rt, &mut self.pass, self.number);
@@ -293,30 +352,59 @@ impl Ringer {
             self.refused = true;
             return Err(Lost);
         }
-        self.waker.wake(rt);
         Ok(())
     }
 
     /// Rings the bell for a letter of that kind, as [`Ringer::ring`] does, except that a bell that sleeps is woken only
-    /// if it wants that letter, or if the ring fills its capacity. If the bell has no capacity left, it is woken, and
-    /// the ringer waits.
+    /// if it wants that letter, or if the ring fills its capacity. If the bell has no capacity left, the ringer waits,
+    /// and then the bell is woken. The log notes the ring, as one at this place of the site that rings, and behind it
+    /// that the bell's thread was woken, if it was.
     ///
     /// # Errors
     ///
     /// `Lost`, as [`Ringer::ring`].
-    pub fn ring_for<R: Wait>(&mut self, rt: &R, kind: Kind4) -> Result<(), Lost>
-        ensures { MatchResult result
+    pub fn ring_for<R: Wait>(
+        &mut self,
+        rt: &R,
+        kind: Kind4,
+        place: u32,
+        log: &mut ThreadLog,
+    ) -> Result<(), Lost>
+        ensures rung { MatchResult result
             (λ _. self.new ≡ after_ring self.old)
             (λ _. self.new ≡ after_refused_ring self.old) }
+        ensures noted { MatchResult result
+            (λ _. HasRungFor place kind log.old.deeds log.new.deeds)
+            (λ _. log.new.deeds ≡ log.old.deeds) }
     {
-        match self.sound(rt, kind) {
-            Ok(wakes) => {
-                if wakes {
-                    self.waker.unpark();
-                }
-                Ok(())
+        let woken = self.sound_or_wait(rt, kind, place, log)?;
+        self.waker.wake_if(woken, place, log);
+        Ok(())
+    }
+
+    // Sends the number, and returns whether the bell has to be woken. The log notes the ring. If the bell has no
+    // capacity left, it waits, and then the bell has to be woken if it sleeps.
+    fn sound_or_wait<R: Wait>(
+        &mut self,
+        rt: &R,
+        kind: Kind4,
+        place: u32,
+        log: &mut ThreadLog,
+    ) -> Result<bool, Lost>
+        ensures rung { MatchResult result
+            (λ _. self.new ≡ after_ring self.old)
+            (λ _. self.new ≡ after_refused_ring self.old) }
+        ensures noted { MatchResult result
+            (λ woken. log.new.deeds ≡ log.old.deeds ++ Rang place kind woken ∷ [])
+            (λ _. log.new.deeds ≡ log.old.deeds) }
+    {
+        match self.sound(rt, kind, place, log) {
+            Ok(woken) => Ok(woken),
+            Err(TrySendError::Full(_)) => {
+                self.send(rt)?;
+                let mut state = self.waker.sleeper.state.lock(rt);
+                Ok(wake_and_note(&mut state, kind, place, log))
             }
-            Err(TrySendError::Full(_)) => self.ring(rt),
             Err(_) => {
                 self.refused = true;
                 Err(Lost)
@@ -329,19 +417,37 @@ impl Ringer {
         self.waker.sleeper.state.lock(rt).is_asleep()
     }
 
-    // Sends the number if there is capacity, and returns whether the bell has to be woken. Both are done under one
-    // lock: a bell that falls asleep finds the ring, or the ring finds the bell asleep.
-    fn sound<R: Wait>(&mut self, rt: &R, kind: Kind4) -> Result<bool, TrySendError<u32>>
-        ensures { MatchResult result (λ _. self.new ≡ after_ring self.old) (λ _. self.new ≡ self.old) }
+    // Sends the number if there is capacity, and returns whether the bell has to be woken. The log notes the ring. All
+    // is done under one lock: a bell that falls asleep finds the ring, or the ring finds the bell asleep.
+    fn sound<R: Wait>(
+        &mut self,
+        rt: &R,
+        kind: Kind4,
+        place: u32,
+        log: &mut ThreadLog,
+    ) -> Result<bool, TrySendError<u32>>
+        ensures rung { MatchResult result (λ _. self.new ≡ after_ring self.old) (λ _. self.new ≡ self.old) }
+        ensures noted { MatchResult result
+            (λ woken. log.new.deeds ≡ log.old.deeds ++ Rang place kind woken ∷ [])
+            (λ _. log.new.deeds ≡ log.old.deeds) }
     {
         let number = self.number;
         let mut state = self.waker.sleeper.state.lock(rt);
-        send_and_note(rt, &self.sender, &mut self.pass, &mut state, number, kind)
+        send_and_note(
+            rt,
+            &self.sender,
+            &mut self.pass,
+            &mut state,
+            number,
+            kind,
+            place,
+            log,
+        )
     }
 }
 
-// Sends the ringer's number if there is capacity, notes the ring, and returns whether it wakes the bell. If nothing is
-// sent, nothing is noted.
+// Sends the ringer's number if there is capacity, notes the ring, and returns whether it wakes the bell. The log notes
+// the ring, with what is returned. If nothing is sent, nothing is noted.
 fn send_and_note<R: Wait>(
     rt: &R,
     sender: &RuledSender<u32, Part, OfRingers>,
@@ -349,6 +455,8 @@ fn send_and_note<R: Wait>(
     state: &mut SleepState,
     number: u32,
     kind: Kind4,
+    place: u32,
+    log: &mut ThreadLog,
 ) -> Result<bool, TrySendError<u32>>
     requires seated { IsSeatAt (sends_on sender.now) pass.old }
     requires own { IsOfRinger number (view pass.old) }
@@ -359,7 +467,24 @@ fn send_and_note<R: Wait>(
     ensures noted { MatchResult result
         (λ woken. NotesRing number kind state.old state.new woken)
         (λ _. state.new ≡ state.old) }
+    ensures rang { MatchResult result
+        (λ woken. log.new.deeds ≡ log.old.deeds ++ Rang place kind woken ∷ [])
+        (λ _. log.new.deeds ≡ log.old.deeds) }
 {
     sender.try_send_as::<Sounds, R>(rt, pass, number)?;
-    Ok(state.note(number, kind))
+    let woken = state.note(number, kind);
+    *log = log.after(&Deed::Rang(place, kind, woken));
+    Ok(woken)
+}
+
+// Ends the sleep of a bell whose ringer had to wait, whatever it wants, and returns whether it slept. The log notes the
+// ring, with what is returned.
+fn wake_and_note(state: &mut SleepState, kind: Kind4, place: u32, log: &mut ThreadLog) -> bool
+    ensures slept { result ≡ state.old.asleep }
+    ensures awake { state.new.asleep ≡ false }
+    ensures rang { log.new.deeds ≡ log.old.deeds ++ Rang place kind result ∷ [] }
+{
+    let slept = state.wake();
+    *log = log.after(&Deed::Rang(place, kind, slept));
+    slept
 }

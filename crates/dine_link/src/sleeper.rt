@@ -1,7 +1,11 @@
 // What a bell shares with its ringers: whether it sleeps, what wakes it, and how it is woken.
-ghost use Rattle.std.specs.Prelude.{◌≡◌, ◌-◌, nat_le, ◌&&◌, ◌||◌, not, true, false};
+ghost use Rattle.std.specs.Prelude.{◌≡◌, ◌-◌, nat_le, ◌&&◌, ◌||◌, ◌++◌, ◌∷◌, [], not, true, false};
+ghost use Rattle.dine_link.specs.Deeds.{waking};
 ghost use Rattle.dine_link.specs.Waking.{seen_wants, wakes, still_wants};
+ghost use Rattle.dine_link.specs.declared.deed.Deed.TheVariants.{Woke};
 
+use crate::deed::Deed;
+use crate::thread_log::ThreadLog;
 use crate::wants::Wants;
 use dine_rules::Kind4;
 use std::alloc::{AllocError, Global};
@@ -116,17 +120,21 @@ impl Waker {
         Ok(Waker { sleeper })
     }
 
-    // Wakes the bell if it sleeps.
-    pub fn wake<R: Wait>(&self, rt: &R) {
-        let slept = self.sleeper.state.lock(rt).wake();
-        if slept {
-            self.unpark();
+    // If a ring has to wake the bell, lets its thread go on, and the log notes that, as done at this place.
+    pub fn wake_if(&self, woken: bool, place: u32, log: &mut ThreadLog)
+        ensures { log.new.deeds ≡ log.old.deeds ++ waking place woken }
+    {
+        if woken {
+            self.unpark(place, log);
         }
     }
 
-    // Lets a bell go on that was asleep.
-    pub fn unpark(&self) {
+    // Lets the thread of a bell go on that was asleep, and the log notes it.
+    fn unpark(&self, place: u32, log: &mut ThreadLog)
+        ensures { log.new.deeds ≡ log.old.deeds ++ Woke place ∷ [] }
+    {
         self.sleeper.parker.unpark();
+        *log = log.after(&Deed::Woke(place));
     }
 }
 

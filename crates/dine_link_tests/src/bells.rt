@@ -1,7 +1,7 @@
 // Rings of one thread and of several.
 use crate::asserts::same;
 use dine_link::testing::finds_asleep;
-use dine_link::{Bell, Lost, Ringer, Wants};
+use dine_link::{Bell, Lost, Ringer, ThreadLog, Wants};
 use dine_rules::Kind4;
 use dine_set::BitSet64;
 use std::alloc::Global;
@@ -120,9 +120,9 @@ fn ring_often<R: Wait>(rt: &R, ringer: &mut Ringer, times: u32, is_plain: bool) 
         let _ = if is_plain {
             ringer.ring(rt)
         } else if i == times || i % 3 == 0 {
-            ringer.ring_for(rt, Kind4::Done)
+            ringer.ring_for(rt, Kind4::Done, 0, &mut ThreadLog::start())
         } else {
-            ringer.ring_for(rt, Kind4::Request)
+            ringer.ring_for(rt, Kind4::Request, 0, &mut ThreadLog::start())
         };
     }
 }
@@ -244,7 +244,7 @@ fn wait_often<R: Wait>(
 ) {
     for _ in 0..count {
         let number = match waits {
-            Waits::Few => bell.wait_for(rt, few()),
+            Waits::Few => bell.wait_for(rt, few(), &mut ThreadLog::start()),
             Waits::Each => bell.wait(rt),
         };
         note(&heard, number);
@@ -312,7 +312,8 @@ fn falls_asleep<R: Wait>(rt: &R, ringers: &[Ringer]) -> bool {
 // The ringer at that place rings for a letter of that kind.
 fn ring_for<R: Abort + Wait>(rt: &R, ringers: &mut Vec<Ringer>, place: usize, kind: Kind4) {
     let ringer = ringers.get_mut(place).expect(rt, "a ringer");
-    same(rt, &ringer.ring_for(rt, kind), &Ok(()));
+    let mut log = ThreadLog::start();
+    same(rt, &ringer.ring_for(rt, kind, 0, &mut log), &Ok(()));
 }
 
 // What ringers do, and what is checked, while a thread of its own waits on their bell.

@@ -1,7 +1,7 @@
 // The two calls of a bell that report a ring if one is left, and never sleep.
 use crate::asserts::same;
 use dine_link::testing::finds_asleep;
-use dine_link::{Bell, Lost, Ringer};
+use dine_link::{Bell, Lost, Ringer, ThreadLog};
 use dine_rules::Clock;
 use std::alloc::Global;
 use std::process::Abort;
@@ -16,7 +16,7 @@ enum Call {
 fn ask<R: Wait>(rt: &R, bell: &mut Bell, by: Call) -> Option<u32> {
     match by {
         Call::TryWait => bell.try_wait(rt),
-        Call::Check => bell.check(rt, &Clock::start()),
+        Call::Check => bell.check(rt, &Clock::start(), &mut ThreadLog::start()),
     }
 }
 

@@ -7,7 +7,7 @@ use crate::calls::Outcome;
 use crate::pair::pair;
 use dine::{PlanDiner, world_text, write_edges, write_sites};
 use dine_core::World;
-use dine_link::{Bell, EmptyChecks};
+use dine_link::{Bell, EmptyChecks, ThreadLog};
 use dine_plan::Plan;
 use dine_run::{EdgeRow, Gathered, SiteOut, SiteRow, edge_table, site_table};
 use dine_token::Fork;
@@ -57,6 +57,7 @@ fn out_of(alloc: Global, plan: &Plan, site: u32) -> Result<SiteOut<PlanDiner>, A
         tokens: Vec::new(alloc),
         journal: Vec::new(alloc),
         checks: no_checks(alloc)?,
+        log: ThreadLog::start(),
         stray: None,
         fault: None,
     })

@@ -1,6 +1,6 @@
 // The faults of `run`.
 use crate::asserts::same;
-use dine_link::{Bell, EmptyChecks};
+use dine_link::{Bell, EmptyChecks, ThreadLog};
 use dine_run::{Breach, Joined, RunFault, SiteFault, SiteOut};
 use dine_test_diners::Taster;
 use std::alloc::{AllocError, Global};
@@ -25,6 +25,7 @@ fn left(alloc: Global, site: u32, fault: Option<SiteFault>) -> Result<SiteOut<Ta
         tokens: Vec::new(alloc),
         journal: Vec::new(alloc),
         checks: no_checks(alloc)?,
+        log: ThreadLog::start(),
         stray: None,
         fault,
     })

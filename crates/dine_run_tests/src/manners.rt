@@ -1,4 +1,4 @@
-// Polite runs: each check of a run holds for them too.
+// Polite, patient and greedy runs: each check of a run holds for them too.
 use crate::asserts::same;
 use crate::graphs::*;
 use crate::links::{BOTH, Links};
@@ -13,22 +13,22 @@ use std::process::Abort;
 use std::sync::Wait;
 use std::thread::Threads;
 
-// Runs the plan of the graph politely over links of a kind, and checks all that is left. The order of what the sites
-// did has as many meals as they ate.
-fn runs_politely<R: Threads + Wait + Abort + Copy + Send + 'static>(
+// Runs the plan of the graph over links of a kind, and checks all that is left. The order of what the sites did has as
+// many meals as they ate.
+fn runs_well<R: Threads + Wait + Abort + Copy + Send + 'static>(
     rt: &R,
     alloc: Global,
     links: Links,
+    options: RunOptions,
     shape: Shape,
     fails_each: u32,
 ) {
     let graph = graph_of(rt, alloc, shape);
     let plan = plan_of(rt, alloc, &graph);
     let diners = tasters(alloc, &plan, fails_each).expect(rt, "memory");
-    let polite = RunOptions::polite();
     let ended = match links {
-        Links::Channels => run_with::<ChannelLane, Taster>(rt, alloc, &plan, diners, polite),
-        Links::Rings => run_with::<RingLane, Taster>(rt, alloc, &plan, diners, polite),
+        Links::Channels => run_with::<ChannelLane, Taster>(rt, alloc, &plan, diners, options),
+        Links::Rings => run_with::<RingLane, Taster>(rt, alloc, &plan, diners, options),
     };
     let Ok(gathered) = ended else {
         panic!(rt; "no run");
@@ -53,8 +53,12 @@ fn runs_politely<R: Threads + Wait + Abort + Copy + Send + 'static>(
     )
 }
 
-#[test]
-fn polite_runs_eat_all_their_meals(rt: HostRuntime) {
+// Runs a pair, a ring and a star over both kinds of links.
+fn eat_all_their_meals<R: Threads + Wait + Abort + Copy + Send + 'static>(
+    rt: &R,
+    alloc: Global,
+    options: RunOptions,
+) {
     let shapes = [
         Shape::Star { sites: 2, jobs: 50 },
         Shape::Ring { sites: 5, jobs: 50 },
@@ -62,26 +66,67 @@ fn polite_runs_eat_all_their_meals(rt: HostRuntime) {
     ];
     for shape in shapes {
         for links in BOTH {
-            runs_politely(&rt, rt.alloc(), links, shape, 7);
+            runs_well(rt, alloc, links, options, shape, 7);
         }
     }
+}
+
+#[test]
+fn polite_runs_eat_all_their_meals(rt: HostRuntime) {
+    eat_all_their_meals(&rt, rt.alloc(), RunOptions::polite())
+}
+
+#[test]
+fn patient_runs_eat_all_their_meals(rt: HostRuntime) {
+    eat_all_their_meals(&rt, rt.alloc(), RunOptions::patience(3))
+}
+
+#[test]
+fn greedy_runs_eat_all_their_meals(rt: HostRuntime) {
+    eat_all_their_meals(&rt, rt.alloc(), RunOptions::greedy())
 }
 
 // The first site's second job of three fails, and it resigns.
 #[test]
 fn polite_site_that_resigns_eats_no_more(rt: HostRuntime) {
     for links in BOTH {
-        runs_politely(&rt, rt.alloc(), links, Shape::ResigningPair, 2);
+        runs_well(
+            &rt,
+            rt.alloc(),
+            links,
+            RunOptions::polite(),
+            Shape::ResigningPair,
+            2,
+        );
+    }
+}
+
+// Runs ten random graphs over both kinds of links.
+fn random_graphs_eat<R: Threads + Wait + Abort + Copy + Send + 'static>(
+    rt: &R,
+    alloc: Global,
+    options: RunOptions,
+) {
+    for seed in 0..10u32 {
+        for links in BOTH {
+            runs_well(rt, alloc, links, options, Shape::Random { seed }, seed % 4);
+        }
     }
 }
 
 #[test]
 fn random_graphs_eat_their_meals_politely(rt: HostRuntime) {
-    for seed in 0..10u32 {
-        for links in BOTH {
-            runs_politely(&rt, rt.alloc(), links, Shape::Random { seed }, seed % 4);
-        }
-    }
+    random_graphs_eat(&rt, rt.alloc(), RunOptions::polite())
+}
+
+#[test]
+fn random_graphs_eat_their_meals_patiently(rt: HostRuntime) {
+    random_graphs_eat(&rt, rt.alloc(), RunOptions::patience(3))
+}
+
+#[test]
+fn random_graphs_eat_their_meals_greedily(rt: HostRuntime) {
+    random_graphs_eat(&rt, rt.alloc(), RunOptions::greedy())
 }
 
 // Runs the pair politely on one thread. The fault names the second site.

@@ -4,6 +4,7 @@ ghost use Rattle.dine_run.specs.Tables.{IsGatheredOf};
 
 use crate::asserts::same;
 use crate::faults::no_checks;
+use dine_link::ThreadLog;
 use dine_plan::{Plan, read_plan};
 use dine_run::{EdgeRow, Gathered, SiteOut, SiteRow, edge_table, site_table};
 use dine_test_diners::Taster;
@@ -69,6 +70,7 @@ fn out_of(alloc: Global, site: u32, ate: u32, failed: u32) -> Result<SiteOut<Tas
         tokens: Vec::new(alloc),
         journal: Vec::new(alloc),
         checks: no_checks(alloc)?,
+        log: ThreadLog::start(),
         stray: None,
         fault: None,
     })

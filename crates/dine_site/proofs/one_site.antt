@@ -1,11 +1,13 @@
 -- One site's loop: its letters at each place, each event and each fault, and what it leaves.
 pub mod Letters
 pub mod Turns
+pub mod Working
 pub mod AtPlaces
 pub mod Closes
 pub mod Meals
 pub mod Obeying
 pub mod Same
+pub mod PutOff
 pub mod WholeMeals
 pub mod Proceeding
 pub mod Quits

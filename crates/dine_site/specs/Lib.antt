@@ -5,6 +5,7 @@ pub mod Starts
 pub mod CallLogs
 pub mod Ports
 pub mod Times
+pub mod Threads
 pub mod Endings
 pub mod SiteEnds
 pub mod SiteRuns

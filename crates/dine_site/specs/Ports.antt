@@ -6,7 +6,6 @@ use Rattle.dine_rules.specs.declared.events.EventKind.{EventKind}
 use Rattle.dine_rules.specs.declared.letters.Letter.{Letter}
 use Rattle.dine_rules.specs.declared.letters.Letter.TheVariants.{Close}
 use Rattle.dine_site.specs.declared.port.Port.{Port}
-use Rattle.dine_site.specs.declared.port.Closed.{Closed}
 use Rattle.dine_link.specs.declared.lane.TxEnd.{TxEnd}
 use Rattle.dine_link.specs.declared.lane.TxEnd.TheVariants.{Live, Shut}
 use Rattle.dine_link.specs.Lanes.{seen_end}

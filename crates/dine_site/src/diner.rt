@@ -7,6 +7,7 @@ ghost use Rattle.dine_site.specs.declared.diner.Call.{Call};
 use dine_token::Meal;
 use std::error::Error;
 use std::fmt;
+use std::sync::Wait;
 
 /// The job of a meal failed.
 #[derive(Clone, Copy, Debug, PartialEq, Eq)]
@@ -52,6 +53,16 @@ pub trait Diner: Drop + Send {
     /// Returns for how many more calls of `eat` the diner has capacity.
     fn room(&self) -> u32
         ensures { result ≡ room_left self.now };
+
+    /// Returns whether the site is called to its next job now. Only a site that is on call asks
+    /// ([`crate::Manner::OnCall`]): while it thinks, and has meals left. It grows hungry if the answer is true. If not,
+    /// it goes on to think: it gives forks that are asked for, sleeps at its bell, and asks again after each ring of
+    /// it. So whoever makes the answer true has to ring that bell afterwards.
+    ///
+    /// A diner that does not define it is always called.
+    fn is_called<R: Wait>(&self, _rt: &R) -> bool {
+        true
+    }
 
     /// Does the job of meal `k`, while the site holds the forks of all its edges.
     ///

@@ -5,8 +5,12 @@ ghost use Rattle.dine_link.specs.Closing.{is_close};
 ghost use Rattle.dine_site.specs.Ports.{is_live_end, seen_port};
 ghost use Rattle.dine_site.specs.private.PortSteps.{EndsIn, Sends, SendsClose, port_after_ring, port_after_take};
 ghost use Rattle.dine_site.specs.private.PortSteps.{port_after_refused_ring, port_after_refused_take};
+ghost use Rattle.dine_site.specs.private.PortSteps.{LogsClose, LogsRing};
+ghost use Rattle.dine_rules.specs.Letters.{kind_of};
+ghost use Rattle.dine_rules.specs.declared.letters.Kind4.TheVariants as kind;
+ghost use Rattle.dine_link.specs.Deeds.{HasRungFor};
 
-use dine_link::{Lane, Lost, Ringer, TxEnd};
+use dine_link::{Lane, Lost, Ringer, ThreadLog, TxEnd};
 use dine_rules::{Kind4, Letter, Stamp};
 use std::sync::Wait;
 
@@ -39,12 +43,21 @@ pub enum Closed {
 }
 
 impl<L: Lane> Port<L> {
-    // Puts a letter other than Close in an end that is live, and rings.
-    pub(crate) fn put<R: Wait>(&mut self, rt: &R, letter: Letter, stamp: Stamp) -> Sent
+    // Puts a letter other than Close in an end that is live, and rings. The log notes the ring, as one at this place,
+    // and behind it that the neighbour was woken, if it was.
+    pub(crate) fn put<R: Wait>(
+        &mut self,
+        rt: &R,
+        letter: Letter,
+        stamp: Stamp,
+        place: u32,
+        log: &mut ThreadLog,
+    ) -> Sent
         requires live { is_live_end self.old.tx ≡ true }
         requires letter { is_close letter ≡ false }
         requires few_letters { length (seen_port L.Lane self.old).tx.letters < 2 ^ 61 }
-        ensures { Sends stamp.at letter (seen_port L.Lane self.old) (seen_port L.Lane self.new) result }
+        ensures sends { Sends stamp.at letter (seen_port L.Lane self.old) (seen_port L.Lane self.new) result }
+        ensures noted { LogsRing place (kind_of letter) log.old.deeds log.new.deeds result }
     {
         let kind = letter.kind();
         let put = match &mut self.tx {
@@ -52,7 +65,7 @@ impl<L: Lane> Port<L> {
             TxEnd::Shut(_) => unreachable!(),
         };
         match put {
-            Ok(()) => match self.ring(rt, kind) {
+            Ok(()) => match self.ring(rt, kind, place, log) {
                 Ok(()) => Sent::Heard,
                 Err(Lost) => Sent::Unheard,
             },
@@ -61,10 +74,17 @@ impl<L: Lane> Port<L> {
     }
 
     // Puts Close in an end that is live, and rings. If the link refuses it, the end stays live.
-    pub(crate) fn close<R: Wait>(self, rt: &R, stamp: Stamp) -> (Port<L>, Closed)
+    pub(crate) fn close<R: Wait>(
+        self,
+        rt: &R,
+        stamp: Stamp,
+        place: u32,
+        log: &mut ThreadLog,
+    ) -> (Port<L>, Closed)
         requires live { is_live_end self.tx ≡ true }
         requires few_letters { length (seen_port L.Lane self).tx.letters < 2 ^ 61 }
-        ensures { SendsClose stamp.at (seen_port L.Lane self) (seen_port L.Lane result.0) result.1 }
+        ensures sends { SendsClose stamp.at (seen_port L.Lane self) (seen_port L.Lane result.0) result.1 }
+        ensures noted { LogsClose place log.old.deeds log.new.deeds result.1 }
     {
         let Port { tx, rx, ringer } = self;
         let TxEnd::Live(tx) = tx else { unreachable!() };
@@ -72,7 +92,7 @@ impl<L: Lane> Port<L> {
             Ok(tx) => {
                 let tx = TxEnd::Shut(tx);
                 let mut port = Port { tx, rx, ringer };
-                match port.ring(rt, Kind4::Close) {
+                match port.ring(rt, Kind4::Close, place, log) {
                     Ok(()) => (port, Closed::Heard),
                     Err(Lost) => (port, Closed::Unheard),
                 }
@@ -96,12 +116,21 @@ impl<L: Lane> Port<L> {
     }
 
     // Rings the neighbour's bell for the letter of that kind which was put last.
-    fn ring<R: Wait>(&mut self, rt: &R, kind: Kind4) -> Result<(), Lost>
+    fn ring<R: Wait>(
+        &mut self,
+        rt: &R,
+        kind: Kind4,
+        place: u32,
+        log: &mut ThreadLog,
+    ) -> Result<(), Lost>
         requires put { EndsIn kind (seen_port L.Lane self.old).tx.letters }
-        ensures { MatchResult result
+        ensures rung { MatchResult result
             (λ _. seen_port L.Lane self.new ≡ port_after_ring (seen_port L.Lane self.old))
             (λ _. seen_port L.Lane self.new ≡ port_after_refused_ring (seen_port L.Lane self.old)) }
+        ensures noted { MatchResult result
+            (λ _. HasRungFor place kind log.old.deeds log.new.deeds)
+            (λ _. log.new.deeds ≡ log.old.deeds) }
     {
-        self.ringer.ring_for(rt, kind)
+        self.ringer.ring_for(rt, kind, place, log)
     }
 }

@@ -4,7 +4,7 @@ ghost use Rattle.dine_site.specs.FaultWords.{site_fault_words};
 
 use crate::diner::Diner;
 use crate::port::Port;
-use dine_link::{Bell, Lane};
+use dine_link::{Bell, Lane, ThreadLog};
 use dine_rules::{Breach, Clock, EventKind, Letter};
 use dine_token::{Fork, Token};
 use std::error::Error;
@@ -67,6 +67,7 @@ pub struct SiteEnd<L: Lane, D: Diner> {
     pub tokens: Vec<Token>,
     pub journal: Vec<EventKind>,
     pub clock: Clock,
+    pub log: ThreadLog,
     pub ports: Vec<Port<L>>,
     pub bell: Bell,
     pub stray: Option<Stray>,

@@ -10,7 +10,7 @@ use crate::diner::Diner;
 use crate::manner::Manner;
 use crate::port::Port;
 use crate::site_end::SiteEnd;
-use dine_link::{Bell, Lane};
+use dine_link::{Bell, Lane, ThreadLog};
 use dine_rules::{Clock, laws};
 use dine_site_core::SiteCore;
 use running::Running;
@@ -29,7 +29,6 @@ pub fn run_site<R: Wait, L: Lane, D: Diner>(
     requires fresh { MayStart D.Diner diner core }
     requires ports { vec_len ports ≡ length core.places }
     requires unused { All IsFreshPort (seen_ports L.Lane ports.items) }
-    requires bell { bell.degree ≡ length core.places }
     requires unrefused { bell.refused ≡ false }
     requires room { core.due ≤ D.room_left diner }
     ensures { IsSiteRun L.Lane D.Diner Manner.Eager core ports.items bell diner result }
@@ -45,11 +44,13 @@ pub fn run_site<R: Wait, L: Lane, D: Diner>(
 /// once. If that fails and the site resigns, it eats no more: it quits, if it has meals left. No other site quits.
 ///
 /// A polite site also checks its bell before each meal. If a ring is left, it takes the letter and goes on with what
-/// the rules then allow; the meal begins only when a check has found no ring left.
+/// the rules then allow; the meal begins only when a check has found no ring left. So does a site that is on call, and
+/// it grows hungry only when its diner is called ([`Diner::is_called`]): until then it waits for its bell, too.
 ///
 /// The core has done no event, and the diner expects to eat at this site of its plan. There is a port for each place of
-/// the core, in order, at which nothing was put, taken, rung or refused. The bell has a ringer for each place, and no
-/// wait for it was refused. The diner has capacity for a call for each meal of the site.
+/// the core, in order, at which nothing was put, taken, rung or refused. No wait for the bell was refused. A ringer of
+/// it whose number is that of a place rings for letters there. Any other is of somebody outside, and the site takes no
+/// letter when it rings. The diner has capacity for a call for each meal of the site.
 ///
 /// A letter that is not allowed is a fault, and so is a link or a bell that refuses. After the first fault the site
 /// puts Close at each place where it has put none, in order, and ends. Later faults are not reported.
@@ -69,7 +70,6 @@ pub fn run_site_with<R: Wait, L: Lane, D: Diner>(
     requires fresh { MayStart D.Diner diner core }
     requires ports { vec_len ports ≡ length core.places }
     requires unused { All IsFreshPort (seen_ports L.Lane ports.items) }
-    requires bell { bell.degree ≡ length core.places }
     requires unrefused { bell.refused ≡ false }
     requires room { core.due ≤ D.room_left diner }
     ensures { IsSiteRun L.Lane D.Diner manner core ports.items bell diner result }
@@ -83,6 +83,7 @@ pub fn run_site_with<R: Wait, L: Lane, D: Diner>(
         diner,
         Vec::new(alloc),
         Clock::start(),
+        ThreadLog::start(),
     );
     match site.work(rt) {
         Ok(()) => site.end(None, None),

@@ -49,6 +49,12 @@ is_dirty_in_hand Away = false
 is_dirty_in_hand (Here fork) = is_dirty fork.log
 is_dirty_in_hand (InMeal meals) = false
 
+-- the fork is in hand, and clean
+abbrev pub is_clean_in_hand : ForkSlot → Bool
+is_clean_in_hand Away = false
+is_clean_in_hand (Here fork) = not (is_dirty fork.log)
+is_clean_in_hand (InMeal meals) = false
+
 -- how many meals of an end the fork has; for a fork in the meal, the number for the other end that the core keeps
 abbrev pub meals_in : ℕ → ForkSlot → ℕ
 meals_in end Away = 0
@@ -175,6 +181,15 @@ breach_at s ate place (letter.Fork fork) = if place.close_taken then Some AfterC
 breach_at s ate place (letter.Request edge) = if place.close_taken then Some AfterClose else breach_of_request s place edge
 breach_at s ate place letter.Done = if place.close_taken then Some AfterClose else breach_of_done s place
 breach_at s ate place letter.Close = if place.close_taken then Some AfterClose else breach_of_close place
+
+-- The letter that comes next at the place can be put off until the next meal: the fork is in hand and clean, and
+-- neither Done nor Close is allowed. So only a Request is.
+abbrev pub can_put_off_at : ℕ → ℕ → Place → Bool
+can_put_off_at s ate place = is_clean_in_hand place.fork && (is_some (breach_at s ate place letter.Done) && is_some (breach_at s ate place letter.Close))
+
+-- the same of place i of a core
+abbrev pub can_put_off : SeenCore → ℕ → Bool
+can_put_off core i = can_put_off_at core.site core.ate (place_at core i)
 
 -- the place after the letter was taken: its fork or its token is here, or Done or Close was taken [paper: arrival]
 abbrev pub place_after_take : Letter → Place → Place

@@ -15,17 +15,17 @@ ghost use Rattle.dine_rules.specs.Steps as step;
 ghost use Rattle.dine_rules.specs.Steps.{after};
 ghost use Rattle.dine_site_core.specs.Core.{SeenCore, Refines, forks_in_hand, fresh_forks, fresh_tokens};
 ghost use Rattle.dine_site_core.specs.Places.{place_at, hand_of, is_held, is_away_at, is_dirty_at, can_give, can_ask};
-ghost use Rattle.dine_site_core.specs.Places.{can_hunger, can_quit, can_begin, next_act, can_say_done, can_close};
-ghost use Rattle.dine_site_core.specs.Places.{drops_jobs, is_ready_at, is_over_at, is_closed_at, neighbour_of, OnHere};
+ghost use Rattle.dine_site_core.specs.Places.{can_hunger, can_put_off, can_quit, can_begin, next_act, can_say_done};
+ghost use Rattle.dine_site_core.specs.Places.{can_close, drops_jobs, is_ready_at, is_over_at, is_closed_at, OnHere};
 ghost use Rattle.dine_site_core.specs.Places.{has_all_said, has_nothing_due, has_all_closed, breach_at, after_hungry};
 ghost use Rattle.dine_site_core.specs.Places.{after_ask, after_give, after_begin, after_end, after_quit, after_done};
 ghost use Rattle.dine_site_core.specs.Places.{after_close, after_take, forks_of};
-ghost use Rattle.dine_site_core.specs.Places.{tokens_of, IsMealOf};
+ghost use Rattle.dine_site_core.specs.Places.{tokens_of, neighbour_of, IsMealOf};
 ghost use Rattle.dine_site_core.specs.LinkNumbers.{link_to, link_from};
 ghost use Rattle.dine_site_core.specs.Standing.{ForEachState, IsFreshFor, ReportsMay, CoreStep, CoreSteps, CorePuts};
 ghost use Rattle.dine_site_core.specs.Standing.{ReportsBreach, AreForksInHand, AreTokensInHand, all_places};
 ghost use Rattle.dine_site_core.specs.Standing.{has_finished, has_closed};
-ghost use Rattle.dine_site_core.specs.CoreWants.{wants_by_lists};
+ghost use Rattle.dine_site_core.specs.CoreWants.{can_put_off_by_lists, wants_by_lists};
 ghost use Rattle.dine_site_core.specs.Said.{said_at};
 
 mod hands;
@@ -254,6 +254,17 @@ impl SiteCore {
             (λ plan state. result ≡ (wants_by_lists plan self.now.site state).forks) }
     {
         self.places.count_away()
+    }
+
+    /// Returns whether the letter that comes next at place `i` can be put off until the next meal: the fork there is in
+    /// hand and clean, and the rules allow neither Done nor Close. So it is a Request, if they allow it.
+    pub fn may_put_off(&self, i: u32) -> bool
+        requires { i < length self.now.places }
+        ensures test { result ≡ can_put_off self.now i }
+        ensures by_lists { ForEachState self.now
+            (λ plan state. result ≡ can_put_off_by_lists plan self.now.site state i) }
+    {
+        self.places.at(i).may_put_off(self.site, self.ate)
     }
 
     /// Returns the number of the link of the world that leads to the site at place `i`.

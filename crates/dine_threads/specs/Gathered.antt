@@ -8,6 +8,7 @@ use Rattle.dine_link.specs.Links.{SeenLink, IsLink}
 use Rattle.dine_threads.specs.declared.gathered.SiteOut.{SiteOut}
 use Rattle.dine_site.specs.declared.manner.Manner.{Manner}
 use Rattle.dine_site.specs.Doings.{empty_checks_of}
+use Rattle.dine_site.specs.Threads.{HasWorkedToEnd}
 use Rattle.dine_site.specs.Diners.{HasEaten, ObeysFailures, shows_quit}
 use Rattle.dine_site.specs.declared.diner.Diner as diners
 
@@ -60,13 +61,15 @@ module _ {D : Type 0} (eater : diners.Ghosts D) (manner : Manner) (plan : SeenPl
   -- What a site left, with the diner that was given for it. It has the number of the site, and at most as many meals as
   -- the site has jobs. The diner was called for the meals 1 to `ate`, in order. If the site resigns, no call follows
   -- one that failed. If it quit, it resigns, and its last call failed. Its record of empty checks is the one that goes
-  -- with its manner and its journal: none, or one for each meal.
+  -- with its manner and its journal: none, or one for each meal. Without a fault, the log of its thread has all that
+  -- the thread did until the site had finished, turn by turn.
   pub record IsOutOf (s : ℕ) (given : D) (out : SiteOut D) : Type 0 where
     pub site : out.site ≡ s
     pub ate : out.ate ≤ job_count plan s
     pub eaten : HasEaten eater.calls eater.marks eater.fits out.ate out.failed given out.diner
     pub obeys : ObeysFailures (resigns plan s) out.journal.items (eater.calls given) (eater.calls out.diner)
     pub checks : out.checks.at ≡ empty_checks_of manner out.journal.items
+    pub threads : out.fault ≡ None → HasWorkedToEnd manner plan s out.journal.items out.log.deeds
 
   -- Each site has left something, and `IsOutOf` holds of it.
   pub record AreOutsOf (given : List D) (outs : List (SiteOut D)) : Type 0 where

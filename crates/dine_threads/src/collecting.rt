@@ -161,6 +161,7 @@ fn split_end<L: Lane, D: Diner>(
         tokens,
         journal,
         clock: _,
+        log,
         ports,
         bell,
         stray,
@@ -176,6 +177,7 @@ fn split_end<L: Lane, D: Diner>(
         tokens,
         journal,
         checks: bell.into_empty_checks(),
+        log,
         stray,
         fault,
     }

@@ -1,14 +1,14 @@
 //! What is gathered when all sites have joined, and why there may be nothing to gather.
-use dine_link::{EmptyChecks, LinkEnd};
+use dine_link::{EmptyChecks, LinkEnd, ThreadLog};
 use dine_rules::EventKind;
 use dine_site::{Diner, SiteFault, Stray};
 use dine_token::{Fork, Token};
 use std::convert::AsSlice;
 
 /// What a site left: how many meals it began and how many of their jobs failed, its diner, the tokens in its hands in
-/// edge order, its journal, which has each event that it did, in order, and the checks of its bell that found no ring
-/// left, which only proofs read. If it ended before it did all, it also left the first cause, and the letter that was
-/// handed back.
+/// edge order, its journal, which has each event that it did, in order, and, which only proofs read, the checks of its
+/// bell that found no ring left, and the log of its thread. If it ended before it did all, it also left the first
+/// cause, and the letter that was handed back.
 #[derive(Drop)]
 pub struct SiteOut<D: Diner> {
     pub site: u32,
@@ -18,6 +18,7 @@ pub struct SiteOut<D: Diner> {
     pub tokens: Vec<Token>,
     pub journal: Vec<EventKind>,
     pub checks: EmptyChecks,
+    pub log: ThreadLog,
     pub stray: Option<Stray>,
     pub fault: Option<SiteFault>,
 }

@@ -13,6 +13,6 @@ mod threads;
 
 pub use causes::RunCause;
 pub use gathered::{Gathered, Joined, RunFault, SiteOut};
-pub use options::RunOptions;
+pub use options::{DEFAULT_PATIENCE, RunOptions};
 pub use tables::{EdgeRow, SiteRow, edge_table, site_table};
-pub use threads::{run, run_with, run_within};
+pub use threads::{run, run_with, run_with_doorbells, run_within};

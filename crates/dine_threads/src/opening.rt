@@ -4,7 +4,8 @@ ghost use Rattle.std.specs.Prelude.{length, map, set, slice_get, slice_index_or,
 ghost use Rattle.dine_graph.specs.Plan.{IsPlan, edge_count, edges_of, site_count};
 ghost use Rattle.dine_threads.specs.private.Openings.{AreNewPorts, ArePlaced, AreRingersOf, HasNoPort};
 ghost use Rattle.dine_threads.specs.private.Openings.{HaveNoPort, HavePorts, bells_of, rows_of};
-ghost use Rattle.dine_link.specs.Bells.{new_ringer};
+ghost use Rattle.std.specs.List.{range_with_len};
+ghost use Rattle.dine_link.specs.Bells.{new_bell, new_ringer};
 ghost use Rattle.dine_site.specs.Ports.{seen_port};
 ghost use Rattle.dine_threads.specs.private.Spots.{AreFull, IsFullRow};
 ghost use Rattle.dine_threads.specs.private.Wirings.{AreRingersAt, AreRung, AreWired};
@@ -20,6 +21,8 @@ use std::alloc::{AllocError, Global};
 pub struct SitePorts<L: Lane> {
     pub ports: Vec<Port<L>>,
     pub bell: Bell,
+    // One more ringer of the bell, for somebody outside.
+    pub outside: Ringer,
 }
 
 // Returns lists with capacity for the ports of a site and for the ringers of its bell. Split for the checker: see
@@ -37,7 +40,22 @@ fn place_lists<P: Drop, Q: Drop>(
     Ok((ports, row))
 }
 
-// Opens the bell of a site, with a list that has capacity for its ports. The ringers are in a row, by place.
+// Opens a bell with a ringer for each place of a site, in order, and one more.
+fn open_bell(alloc: Global, degree: u32) -> Result<(Vec<Ringer>, Ringer, Bell), AllocError>
+    requires { degree ≤ 512 }
+    ensures ringers { IfOk result
+        (λ opened. opened.0.items ≡ map (new_ringer opened.2.identity) (range_with_len 0 degree)) }
+    ensures bell { IfOk result (λ opened. opened.2 ≡ new_bell opened.2.identity (degree + 1)) }
+{
+    let Ok((mut ringers, bell)) = Bell::open(alloc, degree + 1) else {
+        return Err(AllocError);
+    };
+    let outside = ringers.take_last();
+    Ok((ringers, outside, bell))
+}
+
+// Opens the bell of a site, with a list that has capacity for its ports. The ringers are in a row, by place, and there
+// is one more.
 fn open_site<L: Lane>(
     alloc: Global,
     plan: &Plan,
@@ -52,11 +70,14 @@ fn open_site<L: Lane>(
 {
     let degree = plan.edges_of(site).len();
     let (ports, mut row) = place_lists(alloc, degree)?;
-    let Ok((ringers, bell)) = Bell::open(alloc, degree as u32) else {
-        return Err(AllocError);
-    };
+    let (ringers, outside, bell) = open_bell(alloc, degree as u32)?;
     fill_row(ringers, &mut row);
-    Ok((SitePorts { ports, bell }, row))
+    let site_ports = SitePorts {
+        ports,
+        bell,
+        outside,
+    };
+    Ok((site_ports, row))
 }
 
 // The same for all sites.

@@ -12,7 +12,7 @@ ghost use Rattle.dine_site.specs.SiteEnds.{IsLeft, seen_site_end};
 
 use crate::opening::SitePorts;
 use dine_graph::Plan;
-use dine_link::{Bell, Gate, Lane};
+use dine_link::{Bell, Doorbell, Gate, Lane, Ringer, ThreadLog};
 use dine_rules::{Clock, laws};
 use dine_site::{Diner, Manner, Port, SiteEnd, SiteFault, run_site_with};
 use dine_site_core::{Packed, SiteCore, site};
@@ -78,6 +78,7 @@ fn not_started<L: Lane, D: Diner>(
         tokens: parts.tokens,
         journal: Vec::new(alloc),
         clock: Clock::start(),
+        log: ThreadLog::start(),
         ports,
         bell,
         stray: None,
@@ -240,8 +241,16 @@ fn pack_site(alloc: Global, plan: &Plan, number: u32) -> Result<Packed, AllocErr
     Ok(core.pack())
 }
 
-// Returns what moves into the thread of a site.
-fn prepare<L: Lane, D: Diner>(
+// Wires the doorbell of a site, if it has one, to this ringer. If not, the ringer is dropped.
+fn wire<R: Wait>(rt: &R, doorbells: &[Doorbell], number: u32, outside: Ringer) {
+    if let Some(doorbell) = doorbells.get(number as usize) {
+        doorbell.wire(rt, outside);
+    }
+}
+
+// Returns what moves into the thread of a site, and wires its doorbell, if it has one.
+fn prepare<R: Wait, L: Lane, D: Diner>(
+    rt: &R,
     alloc: Global,
     manner: Manner,
     plan: &Plan,
@@ -249,6 +258,7 @@ fn prepare<L: Lane, D: Diner>(
     site_ports: SitePorts<L>,
     diner: D,
     gate: &Arc<Gate, Global>,
+    doorbells: &[Doorbell],
 ) -> Result<SiteStart<L, D>, AllocError>
     requires { number < site_count plan.now }
     ensures fresh { IfOk result (λ start. IsFreshFor plan.now start.packed) }
@@ -260,7 +270,12 @@ fn prepare<L: Lane, D: Diner>(
 {
     let gate = Arc::try_clone(gate)?;
     let packed = pack_site(alloc, plan, number)?;
-    let SitePorts { ports, bell } = site_ports;
+    let SitePorts {
+        ports,
+        bell,
+        outside,
+    } = site_ports;
+    wire(rt, doorbells, number, outside);
     Ok(SiteStart {
         manner,
         packed,
@@ -272,14 +287,16 @@ fn prepare<L: Lane, D: Diner>(
     })
 }
 
-/// Adds what moves into the thread of each site, in order.
-pub fn prepare_all<L: Lane, D: Diner>(
+/// Adds what moves into the thread of each site, in order. Wires the doorbell of each site that has one.
+pub fn prepare_all<R: Wait, L: Lane, D: Diner>(
+    rt: &R,
     alloc: Global,
     manner: Manner,
     plan: &Plan,
     all_ports: Vec<SitePorts<L>>,
     diners: Vec<D>,
     gate: &Arc<Gate, Global>,
+    doorbells: &[Doorbell],
     starts: &mut Vec<SiteStart<L, D>>,
 ) -> Result<(), AllocError>
     requires all_ports { vec_len all_ports ≡ site_count plan.now }
@@ -303,7 +320,9 @@ pub fn prepare_all<L: Lane, D: Diner>(
     let mut waiting = diners.into_iter();
     for site_ports in all_ports {
         let diner = waiting.next().unwrap();
-        let start = prepare(alloc, manner, plan, number, site_ports, diner, gate)?;
+        let start = prepare(
+            rt, alloc, manner, plan, number, site_ports, diner, gate, doorbells,
+        )?;
         starts.push_reserved(start);
         number += 1;
     }

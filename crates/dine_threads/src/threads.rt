@@ -12,7 +12,7 @@ use crate::opening::open_all;
 use crate::options::RunOptions;
 use crate::starts::{Child, SiteStart, join_all, prepare_all, start_all};
 use dine_graph::Plan;
-use dine_link::{Gate, Lane, Signal};
+use dine_link::{Doorbell, Gate, Lane, Signal};
 use dine_rules::laws;
 use dine_site::{Diner, Manner, SiteEnd};
 use std::alloc::{AllocError, Global};
@@ -48,12 +48,14 @@ fn make_lists<C: Drop, E: Drop, S: Drop, P: Drop>(
     Ok((children, ends, room))
 }
 
-// Allocates and opens all that a run needs before its threads start.
-fn set_up<L: Lane, D: Diner>(
+// Allocates and opens all that a run needs before its threads start, and wires the doorbells.
+fn set_up<R: Wait, L: Lane, D: Diner>(
+    rt: &R,
     alloc: Global,
     manner: Manner,
     plan: &Plan,
     diners: Vec<D>,
+    doorbells: &[Doorbell],
 ) -> Result<Setup<L, D>, AllocError>
     requires diners { vec_len diners ≡ site_count plan.now }
     requires rooms { (s : _) (diner : _)
@@ -64,7 +66,17 @@ fn set_up<L: Lane, D: Diner>(
     let gate = Arc::new(alloc, Gate::new())?;
     let mut starts = Vec::with_capacity(alloc, plan.sites() as usize)?;
     let all_ports = open_all::<L>(alloc, plan)?;
-    prepare_all(alloc, manner, plan, all_ports, diners, &gate, &mut starts)?;
+    prepare_all(
+        rt,
+        alloc,
+        manner,
+        plan,
+        all_ports,
+        diners,
+        &gate,
+        doorbells,
+        &mut starts,
+    )?;
     let (children, ends, room) = make_lists(alloc, plan)?;
     Ok(Setup {
         gate,
@@ -162,6 +174,34 @@ where
     ensures fault { IfErr result (FaultIs D.Diner options.manner plan.now diners) }
     ensures limit { options.threads < site_count plan.now → FallsShort options.threads result }
 {
+    run_with_doorbells::<L, D>(rt, alloc, plan, diners, &[], options)
+}
+
+/// Runs every site of the plan, as [`run_with`] does, and wires the doorbell of each site, by number, to its bell
+/// before the first thread starts. So the sites may be on call ([`Manner::OnCall`]), and be rung when their diners are
+/// called. A doorbell beyond the last site is left as it is, and a site may have none.
+///
+/// # Errors
+///
+/// Those of [`run_with`].
+pub fn run_with_doorbells<L: Lane + 'static, D: Diner + 'static>(
+    rt: &(impl Threads + Wait + Copy + Send + 'static),
+    alloc: Global,
+    plan: &Plan,
+    diners: Vec<D>,
+    doorbells: &[Doorbell],
+    options: RunOptions,
+) -> Result<Gathered<D>, RunFault<D>>
+where
+    L::Tx: 'static,
+    L::ClosedTx: 'static,
+    L::Rx: 'static,
+    requires room { HaveRoom D.Diner plan.now diners }
+    requires expected { HaveSites D.Diner plan.now diners }
+    ensures ok { IfOk result (IsRun D.Diner options.manner plan.now diners) }
+    ensures fault { IfErr result (FaultIs D.Diner options.manner plan.now diners) }
+    ensures limit { options.threads < site_count plan.now → FallsShort options.threads result }
+{
     laws::kept_streams_account_for_fork_and_token();
     laws::joined_ends_have_one_whole_fork_and_one_token();
     laws::values_are_those_of_the_logs();
@@ -172,7 +212,7 @@ where
             diners,
         });
     }
-    let Ok(setup) = set_up::<L, D>(alloc, options.manner, plan, diners) else {
+    let Ok(setup) = set_up::<_, L, D>(rt, alloc, options.manner, plan, diners, doorbells) else {
         return Err(RunFault::Memory);
     };
     let Setup {

@@ -1,25 +1,30 @@
 -- What every run keeps: each letter in a link was rung for, or its sender has yet to ring; and a site that sleeps waits
 -- for no letter that was rung for.
-use Rattle.std.proofs.Common.{◌≡◌, ◌≢◌, ◌⊎◌, ℕ, zero, suc, ◌<◌, false, List, [], ◌∷◌, ◌++◌, length, map, drop, replicate, get_or, slice_set, None, refl, sym, ◌∙◌, ap, subst, inl, inr, arith}
+use Rattle.std.proofs.Common.{◌≡◌, ◌≢◌, ◌⊎◌, ℕ, zero, suc, ◌<◌, true, false, List, [], ◌∷◌, ◌++◌, length, map, drop, replicate, get_or, slice_set, None, refl, sym, ◌∙◌, ap, subst, inl, inr, arith}
 use Rattle.std.proofs.lemmas.Bool.{cases_eq}
-use Rattle.std.proofs.lemmas.List.{get_or-set_same, get_or-set_other, length-replicate, length-set}
+use Rattle.std.proofs.lemmas.List.{append_assoc, get_or-set_same, get_or-set_other, length-replicate, length-set}
 use Rattle.dine_graph.specs.Plan.{SeenPlan, IsPlan, site_count, edges_of}
 use Rattle.dine_rules.specs.declared.events.Event.{Event}
 use Rattle.dine_rules.specs.declared.letters.Letter.{Letter}
+use Rattle.dine_rules.specs.Breach.{is_allowed}
 use Rattle.dine_rules.specs.Letters.{kind_of}
 use Rattle.dine_rules.specs.Links.{queue_to}
 use Rattle.dine_rules.specs.Local.{LocalState, Traffic, edge_at, neighbour_at, no_traffic, traffic_at}
 use Rattle.dine_rules.specs.World.{Reaches, WorldState, place_of, put_to, start, state_of}
+use Rattle.dine_rules.specs.Streams.{KeepsStreams}
 use Rattle.dine_rules.proofs.links.Across.{across}
+use Rattle.dine_rules.proofs.links.NextLetters.{reached_allowed}
 use Rattle.dine_rules.proofs.links.WorldStreams.{WorldKeeps, events_then, reached_kept, start_state}
 use Rattle.dine_rules.proofs.one_site.Site.{no_traffic_yet}
-use Rattle.dine_site_core.specs.CoreWants.{wants_by_lists}
+use Rattle.dine_site_core.specs.CoreWants.{can_put_off_by_lists, wants_by_lists}
 use Rattle.dine_site_core.specs.NextEvent.{next_event}
 use Rattle.dine_site_core.specs.Standing.{has_finished}
 use Rattle.dine_waking.specs.Sleeping.{ArePlacesBelow, ComeUnwanted, Coming, letters_coming_at}
-use Rattle.dine_waking.specs.Runs.{Doing, FallsAsleep, GoesOn, HearsRing, HasToRing, Run, Sleeps, HasToTake, TakesLetter, Thread, HasToWake, IsToBeWoken, fresh_thread, places_heard, rings_left, start_run, thread_of}
+use Rattle.dine_waking.specs.Runs.{Doing, FallsAsleep, GoesOn, HearsRing, HasToRing, Run, Sleeps, HasToTake, TakesLetter, Thread, HasToWake, IsToBeWoken, fresh_thread, places_heard, rings_for, rings_left, start_run, thread_of}
 use Rattle.dine_waking.proofs.Letters.{first_at, first_elsewhere}
+use Rattle.dine_waking.proofs.PutOff.{AreUnwantedRequests, IsCut, cut_at, letters_moved, numbers_moved, only_one_first, only_requests, place_below, places_moved, places_of, request_unwanted, requests_come}
 use Rattle.dine_waking.proofs.Queues.{IsTaken, take_at, takes_first}
+use Rattle.dine_waking.proofs.Quiet.{first_is_next}
 
 -- ---- what is kept
 
@@ -245,7 +250,7 @@ module _ (plan : SeenPlan) (is_plan : IsPlan plan) (old new : Run) (keeps : RunK
 
   module _ (h : HearsRing plan s old new) where
     abbrev hearer : Thread
-    hearer = record { doing = HasToTake h.i; bell = h.rest }
+    hearer = record { doing = HasToTake h.i; bell = h.front ++ h.rest }
 
     heard_quiet : KeepsUnrung old new
     heard_quiet = quiet_change old new s hearer h.threads GoesOn h.goes_on has_thread (λ place letters none. none)
@@ -254,8 +259,21 @@ module _ (plan : SeenPlan) (is_plan : IsPlan plan) (old new : Run) (keeps : RunK
     heard_link t i rung_for within = link_stays plan old new t i rung_for (ap (λ (world : WorldState). queue_to plan world t i) h.world)
         (heard_quiet (neighbour_at plan t i) (place_of plan (neighbour_at plan t i) (edge_at plan t i)))
 
-    same_rings : rings_left (thread_of old s) ≡ rings_left hearer
-    same_rings = ap (λ (d : Doing). places_heard d ++ (thread_of old s).bell) h.goes_on ∙ h.bell
+    -- the letter for which it was rung comes first now
+    cut : IsCut keeps_here.rung_for h.front h.i h.rest
+    cut = cut_at keeps_here.rung_for h.front h.i h.rest (keeps_here.numbers ∙ ap (λ (d : Doing). places_heard d ++ (thread_of old s).bell) h.goes_on ∙ h.bell)
+
+    abbrev moved : List Coming
+    moved = cut.one ∷ (cut.before ++ cut.behind)
+
+    none_before_it : rings_for cut.one.place (places_of cut.before) ≡ 0
+    none_before_it = ap (λ (numbers : List ℕ). rings_for cut.one.place numbers) cut.front_is ∙ ap (λ (k : ℕ). rings_for k h.front) cut.here ∙ h.first
+
+    moved_letters : (i : ℕ) → letters_coming_at i keeps_here.rung_for ≡ letters_coming_at i moved
+    moved_letters i = ap (letters_coming_at i) cut.is ∙ letters_moved i cut.before cut.one cut.behind none_before_it
+
+    moved_link : (i : ℕ) → InLink plan new s i keeps_here.rung_for → InLink plan new s i moved
+    moved_link i link = record { left = link.left; queue = link.queue ∙ ap (λ (letters : List Letter). letters ++ link.left) (moved_letters i); unrung = link.unrung }
 
     pub keeps_heard : RunKeeps plan new
     keeps_heard = record {
@@ -264,11 +282,11 @@ module _ (plan : SeenPlan) (is_plan : IsPlan plan) (old new : Run) (keeps : RunK
       threads = as_many old new s hearer h.threads ∙ keeps.threads;
       waking = waking_stays old new s hearer h.threads plan GoesOn h.goes_on tt tt has_thread keeps.waking;
       sites = each_site plan new s (record {
-        rung_for = keeps_here.rung_for;
-        places = keeps_here.places;
-        numbers = keeps_here.numbers ∙ same_rings ∙ ap rings_left (sym (thread_here old new s hearer h.threads has_thread));
-        links = λ i within. heard_link s i keeps_here.rung_for within (keeps_here.links i within);
-        fits = subst (λ (thread : Thread). Fits plan s (state_of new.world s) keeps_here.rung_for thread.doing) (sym (thread_here old new s hearer h.threads has_thread)) tt;
+        rung_for = moved;
+        places = places_moved (length (edges_of plan s)) cut.one cut.behind cut.before (subst (ArePlacesBelow (length (edges_of plan s))) cut.is keeps_here.places);
+        numbers = numbers_moved h.front h.rest h.i cut.before cut.one cut.behind cut.front_is cut.here cut.rest_is ∙ ap rings_left (sym (thread_here old new s hearer h.threads has_thread));
+        links = λ i within. moved_link i (heard_link s i keeps_here.rung_for within (keeps_here.links i within));
+        fits = subst (λ (thread : Thread). Fits plan s (state_of new.world s) moved thread.doing) (sym (thread_here old new s hearer h.threads has_thread)) tt;
       }) (λ t is_t other. site_stays plan old new t (thread_elsewhere old new s hearer h.threads t other) (ap (λ (world : WorldState). state_of world t) h.world) (heard_link t) (keeps.sites t is_t));
     }
 
@@ -276,7 +294,7 @@ module _ (plan : SeenPlan) (is_plan : IsPlan plan) (old new : Run) (keeps : RunK
 
   module _ (h : FallsAsleep plan s old new) where
     abbrev sleeper : Thread
-    sleeper = record { doing = Sleeps (wants_by_lists plan s (state_of old.world s)); bell = [] }
+    sleeper = record { doing = Sleeps (wants_by_lists plan s (state_of old.world s)); bell = (thread_of old s).bell }
 
     asleep_quiet : KeepsUnrung old new
     asleep_quiet = quiet_change old new s sleeper h.threads GoesOn h.goes_on has_thread (λ place letters none. none)
@@ -285,22 +303,38 @@ module _ (plan : SeenPlan) (is_plan : IsPlan plan) (old new : Run) (keeps : RunK
     asleep_link t i rung_for within = link_stays plan old new t i rung_for (ap (λ (world : WorldState). queue_to plan world t i) h.world)
         (asleep_quiet (neighbour_at plan t i) (place_of plan (neighbour_at plan t i) (edge_at plan t i)))
 
-    no_rings : rings_left (thread_of old s) ≡ []
-    no_rings = ap (λ (d : Doing). places_heard d ++ (thread_of old s).bell) h.goes_on ∙ h.silent
+    same_rings : rings_left (thread_of old s) ≡ rings_left sleeper
+    same_rings = ap (λ (d : Doing). places_heard d ++ (thread_of old s).bell) h.goes_on
 
-    none_numbered : (coming : List Coming) → map (λ (one : Coming). one.place) coming ≡ [] → coming ≡ []
-    none_numbered [] e = refl
-    none_numbered (one ∷ coming) e = absurd (let n : one.place ∷ map (λ (c : Coming). c.place) coming ≡ [] = e in cc)
+    -- the rings that are left are for these letters
+    left_are : places_of keeps_here.rung_for ≡ (thread_of old s).bell
+    left_are = keeps_here.numbers ∙ same_rings
 
-    none_rung : keeps_here.rung_for ≡ []
-    none_rung = none_numbered keeps_here.rung_for (keeps_here.numbers ∙ no_rings)
+    -- each of them is a Request for which the site does not wait
+    each_left : (front coming : List Coming) → keeps_here.rung_for ≡ front ++ coming → AreUnwantedRequests (wants_by_lists plan s (state_of old.world s)) coming
+    each_left front [] is = tt
+    each_left front (one ∷ coming) is =
+        let state : LocalState = state_of old.world s in
+        let within : one.place < length (edges_of plan s) = place_below (length (edges_of plan s)) one coming front (subst (ArePlacesBelow (length (edges_of plan s))) is keeps_here.places) in
+        let counted : rings_for one.place (places_of (front ++ one ∷ coming)) ≡ rings_for one.place (thread_of old s).bell = ap (λ (c : List Coming). rings_for one.place (places_of c)) (sym is) ∙ ap (rings_for one.place) left_are in
+        let w = only_one_first front one coming (omega (arith, counted, h.once one.place)) in
+        let link : InLink plan old s one.place keeps_here.rung_for = keeps_here.links one.place within in
+        let queue : queue_to plan old.world s one.place ≡ one.letter ∷ (letters_coming_at one.place coming ++ link.left) =
+        link.queue ∙ ap (λ (c : List Coming). letters_coming_at one.place c ++ link.left) is ∙ ap (λ (letters : List Letter). letters ++ link.left) w.0 in
+        let allowed : is_allowed plan s state one.place one.letter ≡ true = reached_allowed plan keeps.events old.world s one.place is_plan keeps.reached is_site within one.letter
+        (first_is_next (put_to plan old.world s one.place) (length (traffic_at state one.place).taken) one.letter (letters_coming_at one.place coming ++ link.left) queue).0 in
+        let can : can_put_off_by_lists plan s state one.place ≡ true = h.put_off one.place (omega (arith, counted, w.1)) in
+        let keeps_state : KeepsStreams plan s state = kept.keeps s is_site in (
+          (only_requests plan s state one.place can one.letter allowed, request_unwanted plan s state one.place can (omega (arith, within, keeps_state.every_place))),
+          each_left (front ++ one ∷ []) coming (is ∙ sym (append_assoc front (one ∷ []) coming)),
+        )
 
     asleep_fits : Fits plan s (state_of new.world s) keeps_here.rung_for sleeper.doing
     asleep_fits = (
       ap (λ (world : WorldState). next_event plan s (state_of world s)) h.world ∙ h.idle,
       ap (λ (world : WorldState). has_finished plan s (state_of world s)) h.world ∙ h.unfinished,
-      subst (λ (coming : List Coming). ComeUnwanted (wants_by_lists plan s (state_of new.world s)) coming (wants_by_lists plan s (state_of old.world s))) (sym none_rung)
-          (ap (λ (world : WorldState). wants_by_lists plan s (state_of world s)) h.world),
+      subst (λ (world : WorldState). ComeUnwanted (wants_by_lists plan s (state_of world s)) keeps_here.rung_for (wants_by_lists plan s (state_of old.world s))) (sym h.world)
+          (requests_come (wants_by_lists plan s (state_of old.world s)) keeps_here.rung_for (each_left [] keeps_here.rung_for refl)),
     )
 
     pub keeps_asleep : RunKeeps plan new
@@ -312,7 +346,7 @@ module _ (plan : SeenPlan) (is_plan : IsPlan plan) (old new : Run) (keeps : RunK
       sites = each_site plan new s (record {
         rung_for = keeps_here.rung_for;
         places = keeps_here.places;
-        numbers = keeps_here.numbers ∙ no_rings ∙ ap rings_left (sym (thread_here old new s sleeper h.threads has_thread));
+        numbers = left_are ∙ ap rings_left (sym (thread_here old new s sleeper h.threads has_thread));
         links = λ i within. asleep_link s i keeps_here.rung_for within (keeps_here.links i within);
         fits = subst (λ (thread : Thread). Fits plan s (state_of new.world s) keeps_here.rung_for thread.doing) (sym (thread_here old new s sleeper h.threads has_thread)) asleep_fits;
       }) (λ t is_t other. site_stays plan old new t (thread_elsewhere old new s sleeper h.threads t other) (ap (λ (world : WorldState). state_of world t) h.world) (asleep_link t) (keeps.sites t is_t));

@@ -98,12 +98,12 @@ module _ (plan : SeenPlan) (is_plan : IsPlan plan) (old new : Run) (keeps : RunK
 
   heard_counts : HearsRing plan s old new → Counts
   heard_counts h =
-      let thread : Thread = record { doing = HasToTake h.i; bell = h.rest } in
+      let thread : Thread = record { doing = HasToTake h.i; bell = h.front ++ h.rest } in
       omega (arith, ap effects_of h.world, ap weights h.threads, weights_set old.threads s thread has_thread, ap weight h.goes_on)
 
   asleep_counts : FallsAsleep plan s old new → Counts
   asleep_counts h =
-      let thread : Thread = record { doing = Sleeps (wants_by_lists plan s (state_of old.world s)); bell = [] } in
+      let thread : Thread = record { doing = Sleeps (wants_by_lists plan s (state_of old.world s)); bell = (thread_of old s).bell } in
       omega (arith, ap effects_of h.world, ap weights h.threads, weights_set old.threads s thread has_thread, ap weight h.goes_on)
 
   rung_counts : RingsBell plan s old new → Counts

@@ -1,5 +1,5 @@
 -- Runs that go on end, and there are such runs.
-use Rattle.std.proofs.Common.{◌≡◌, ◌⊎◌, ℕ, zero, suc, ◌+◌, ◌*◌, ◌<◌, ◌≤◌, List, [], ◌∷◌, slice_get, Option, Some, None, is_some, refl, sym, ◌∙◌, ap, subst, inl, inr, arith}
+use Rattle.std.proofs.Common.{◌≡◌, ◌⊎◌, ℕ, zero, suc, ◌+◌, ◌*◌, ◌<◌, ◌≤◌, List, [], ◌∷◌, ◌++◌, slice_get, Option, Some, None, is_some, refl, sym, ◌∙◌, ap, subst, inl, inr, arith}
 use Rattle.std.proofs.lemmas.Bool.{true≢false}
 use Rattle.dine_graph.specs.Plan.{SeenPlan, IsPlan, site_count}
 use Rattle.dine_rules.specs.declared.events.Event.{Event}
@@ -27,7 +27,11 @@ module _ (plan : SeenPlan) (is_plan : IsPlan plan) (run : Run) (keeps : RunKeeps
   no_step (ByActing a) = no_event (record { site = s; kind = a.kind }) a.world
   no_step (ByRinging r) = let e : GoesOn ≡ HasToRing r.i r.kind = sym awake ∙ r.rings in cc
   no_step (ByWaking h) = let e : GoesOn ≡ HasToWake h.i = sym awake ∙ h.wakes in cc
-  no_step (ByHearing h) = let e : [] ≡ h.i ∷ h.rest = sym (ap (λ (thread : Thread). thread.bell) (ended.awake s is_site)) ∙ h.bell in cc
+  no_step (ByHearing h) = none_there h.front (sym (ap (λ (thread : Thread). thread.bell) (ended.awake s is_site)) ∙ h.bell)
+    where
+      none_there : (front : List ℕ) → [] ≡ front ++ h.i ∷ h.rest → ⊥
+      none_there [] is = let e : [] ≡ h.i ∷ h.rest = is in cc
+      none_there (j ∷ front) is = let e : [] ≡ j ∷ (front ++ h.i ∷ h.rest) = is in cc
   no_step (ByTaking t) = let e : GoesOn ≡ HasToTake t.i = sym awake ∙ t.takes in cc
   no_step (BySleeping f) = true≢false (sym (ended.finished s is_site) ∙ f.unfinished)
 

@@ -1,5 +1,5 @@
 -- What a step does at a place of a site that has a ring left for it, and which sites have checked then.
-use Rattle.std.proofs.Common.{◌≡◌, ◌≢◌, ◌⊎◌, ℕ, ◌+◌, ◌<◌, ◌≤◌, ◌==◌, ◌||◌, Bool, true, false, cond, if◌then◌else◌, List, [], ◌∷◌, ◌++◌, length, count_by, get_or, slice_set, Option, Some, refl, sym, ◌∙◌, ap, subst, inl, inr, arith}
+use Rattle.std.proofs.Common.{◌≡◌, ◌≢◌, ◌⊎◌, ℕ, ◌+◌, ◌<◌, ◌≤◌, ◌==◌, ◌&&◌, ◌||◌, Bool, true, false, cond, if◌then◌else◌, List, [], ◌∷◌, ◌++◌, length, get_or, slice_set, Option, Some, refl, sym, ◌∙◌, ap, subst, inl, inr, arith}
 use Rattle.std.proofs.lemmas.Bool.{cases_eq, cond-true, cond-false, eq-eqb, false≢true, ne_eqb}
 use Rattle.std.proofs.lemmas.List.{get_or-set_other}
 use Rattle.std.proofs.lemmas.List.Sums.{sum_by-append, sum_by-cons}
@@ -15,10 +15,11 @@ use Rattle.dine_rules.specs.Steps as step
 use Rattle.dine_rules.specs.World.{WorldState, next_letter, no_state, state_of, world_after}
 use Rattle.dine_rules.proofs.counting.Persistence.{set_cases}
 use Rattle.dine_rules.proofs.links.WorldStreams.{WorldKeeps, event_is_step, option_map_parts, reached_kept}
+use Rattle.dine_site_core.specs.CoreWants.{can_put_off_by_lists}
 use Rattle.dine_site_core.specs.NextEvent.{may_by_itself, own_kinds}
 use Rattle.dine_site_core.specs.Standing.{all_places}
-use Rattle.dine_waking.specs.Manners.{IsInManner, finds_no_ring, has_checked, checked_after, meals_so_far}
-use Rattle.dine_waking.specs.Runs.{Acts, ByActing, ByHearing, ByRinging, BySleeping, ByTaking, ByWaking, Doing, FallsAsleep, GoesOn, HasToRing, HasToWake, HearsRing, IsToBeWoken, RingsBell, Run, HasToTake, Sleeps, TakesLetter, Thread, ThreadStep, WakesThread, after_ringing, doing_after, doing_rung, fresh_thread, is_woken_by, places_heard, number_there, rings_left, thread_after_ring, thread_of}
+use Rattle.dine_waking.specs.Manners.{IsInManner, can_all_be_put_off, finds_no_ring, has_checked, checked_after, meals_so_far}
+use Rattle.dine_waking.specs.Runs.{Acts, ByActing, ByHearing, ByRinging, BySleeping, ByTaking, ByWaking, Doing, FallsAsleep, GoesOn, HasToRing, HasToWake, HearsRing, IsToBeWoken, RingsBell, Run, HasToTake, Sleeps, TakesLetter, Thread, ThreadStep, WakesThread, after_ringing, doing_after, doing_rung, fresh_thread, is_woken_by, places_heard, number_there, rings_for, rings_left, thread_after_ring, thread_of}
 use Rattle.dine_waking.proofs.Queues.{put_keeps_taken, state_here, taken_elsewhere, taken_here}
 use Rattle.dine_waking.proofs.Bells.{RunKeeps, thread_elsewhere, thread_here}
 use Rattle.dine_waking.proofs.Acting.{found_passes}
@@ -26,15 +27,20 @@ use Rattle.dine_waking.proofs.Ringing.{heard_ringer, heard_rung}
 
 -- ---- rings
 
--- how many rings of the list are for place i
-abbrev pub rings_for : ℕ → List ℕ → ℕ
-rings_for i = count_by (λ k. k == i)
-
 rings_for-append : (i : ℕ) (xs ys : List ℕ) → rings_for i (xs ++ ys) ≡ rings_for i xs + rings_for i ys
 rings_for-append i xs ys = sum_by-append (λ k. cond (k == i) 1 0) xs ys
 
 rings_for-here : (i : ℕ) (rings : List ℕ) → rings_for i (i ∷ rings) ≡ rings_for i rings + 1
 rings_for-here i rings = omega (arith, sum_by-cons (λ k. cond (k == i) 1 0) i rings, cond-true {A = ℕ} (i == i) 1 0 (eq-eqb i i refl))
+
+rings_for-moved : (i j : ℕ) (front rest : List ℕ) → rings_for i (front ++ j ∷ rest) ≡ rings_for i (j ∷ (front ++ rest))
+rings_for-moved i j front rest = omega (
+  arith,
+  rings_for-append i front (j ∷ rest),
+  rings_for-append i front rest,
+  sum_by-cons (λ k. cond (k == i) 1 0) j rest,
+  sum_by-cons (λ k. cond (k == i) 1 0) j (front ++ rest),
+)
 
 rings_for-other : (i j : ℕ) (rings : List ℕ) → j ≢ i → rings_for i (j ∷ rings) ≡ rings_for i rings
 rings_for-other i j rings other = omega (arith, sum_by-cons (λ k. cond (k == i) 1 0) j rings, cond-false {A = ℕ} (j == i) 1 0 (ne_eqb j i other))
@@ -166,7 +172,7 @@ module _ (plan : SeenPlan) (is_plan : IsPlan plan) (s i : ℕ) (is_site : s < si
     other_step (ByActing a) = stays (away a.kind a.world) (apart (record { doing = doing_after a.kind; bell = (thread_of old x).bell }) a.threads)
     other_step (ByRinging r) = rung_stays x r
     other_step (ByWaking h) = woken_stays x h
-    other_step (ByHearing h) = stays (ap (λ (world : WorldState). state_of world s) h.world) (apart (record { doing = HasToTake h.i; bell = h.rest }) h.threads)
+    other_step (ByHearing h) = stays (ap (λ (world : WorldState). state_of world s) h.world) (apart (record { doing = HasToTake h.i; bell = h.front ++ h.rest }) h.threads)
     other_step (ByTaking t) = stays (away (event.Take t.i) t.world) (apart (record { doing = GoesOn; bell = (thread_of old x).bell }) t.threads)
     other_step (BySleeping f) = stays (ap (λ (world : WorldState). state_of world s) f.world) (apart _ f.threads)
 
@@ -205,9 +211,13 @@ module _ (plan : SeenPlan) (is_plan : IsPlan plan) (s i : ℕ) (is_site : s < si
 
   hears : HearsRing plan s old new → AtPlace plan s i old new
   hears h =
-      let thread : Thread = record { doing = HasToTake h.i; bell = h.rest } in
-      stays (ap (λ (world : WorldState). state_of world s) h.world) (as_many thread (thread_here old new s thread h.threads has_thread)
-      (ap (λ (d : Doing). places_heard d ++ (thread_of old s).bell) h.goes_on ∙ h.bell))
+      let thread : Thread = record { doing = HasToTake h.i; bell = h.front ++ h.rest } in
+      stays (ap (λ (world : WorldState). state_of world s) h.world) (omega (
+        arith,
+        ap (λ (t : Thread). rings_for i (rings_left t)) (thread_here old new s thread h.threads has_thread),
+        ap (rings_for i) (ap (λ (d : Doing). places_heard d ++ (thread_of old s).bell) h.goes_on ∙ h.bell),
+        rings_for-moved i h.i h.front h.rest,
+      ))
 
   takes : TakesLetter plan s old new → AtPlace plan s i old new
   takes t =
@@ -227,11 +237,12 @@ module _ (plan : SeenPlan) (is_plan : IsPlan plan) (s i : ℕ) (is_site : s < si
             (omega (arith, ap (rings_for i) now, ap (rings_for i) was, rings_for-other i t.i (thread_of old s).bell other))
       ]
 
-  falls_asleep : FallsAsleep plan s old new → rings_for i (rings_left (thread_of old s)) ≡ 0
-  falls_asleep f = ap (λ (d : Doing). rings_for i (places_heard d ++ (thread_of old s).bell)) f.goes_on ∙ ap (rings_for i) f.silent
+  falls_asleep : FallsAsleep plan s old new → AtPlace plan s i old new
+  falls_asleep f = stays (ap (λ (world : WorldState). state_of world s) f.world) (as_many _ (thread_here old new s _ f.threads has_thread)
+      (ap (λ (d : Doing). places_heard d ++ (thread_of old s).bell) f.goes_on))
 
   -- whatever its manner: it begins a meal, or not
-  pub own_step : (one : ThreadStep plan s old new) → 0 < rings_for i (rings_left (thread_of old s)) → AtPlace plan s i old new ⊎ (Begun plan s i old new × ((checked : ℕ → Bool) → IsInManner plan s checked old new one true → has_checked old checked s ≡ true))
+  pub own_step : (one : ThreadStep plan s old new) → 0 < rings_for i (rings_left (thread_of old s)) → AtPlace plan s i old new ⊎ (Begun plan s i old new × ((checked : ℕ → Bool) → IsInManner plan s checked old new one true → has_checked plan old checked s ≡ true))
   own_step (ByActing a) ringing = elim (acts a) [
     | inl at ↦ inl at
     | inr w ↦ inr (w.1, λ checked polite. polite w.0)
@@ -240,28 +251,39 @@ module _ (plan : SeenPlan) (is_plan : IsPlan plan) (s i : ℕ) (is_site : s < si
   own_step (ByWaking h) ringing = inl (woken_stays s h)
   own_step (ByHearing h) ringing = inl (hears h)
   own_step (ByTaking t) ringing = inl (takes t)
-  own_step (BySleeping f) ringing = absurd (let none : rings_for i (rings_left (thread_of old s)) ≡ 0 = falls_asleep f in omega arith)
+  own_step (BySleeping f) ringing = inl (falls_asleep f)
 
 -- ---- checks
 
--- a thread that has a ring left does not find its bell without one
-finds_one : (i : ℕ) (doing : Doing) (bell : List ℕ) → 0 < rings_for i (places_heard doing ++ bell) → finds_no_ring doing bell ≡ false
-finds_one i GoesOn [] ringing = absurd (omega arith)
-finds_one i GoesOn (k ∷ bell) ringing = refl
-finds_one i (HasToRing k kind) bell ringing = refl
-finds_one i (HasToWake k) bell ringing = refl
-finds_one i (HasToTake k) bell ringing = refl
-finds_one i (Sleeps wants) bell ringing = refl
-finds_one i (IsToBeWoken k) bell ringing = refl
+-- a ring is left for a place at which nothing can be put off
+finds_some : (plan : SeenPlan) (s : ℕ) (state : LocalState) (i : ℕ) → can_put_off_by_lists plan s state i ≡ false → (bell : List ℕ) → 0 < rings_for i bell → can_all_be_put_off plan s state bell ≡ false
+finds_some plan s state i none [] ringing = absurd (omega arith)
+finds_some plan s state i none (k ∷ bell) ringing = elim (cases_eq k i) [
+  | inl same ↦ ap (λ (j : ℕ). can_put_off_by_lists plan s state j && can_all_be_put_off plan s state bell) same ∙ ap (λ (b : Bool). b && can_all_be_put_off plan s state bell) none
+  | inr other ↦ ap (λ (b : Bool). can_put_off_by_lists plan s state k && b) (finds_some plan s state i none bell (omega (arith, ringing, rings_for-other i k bell other))) ∙ and_false (can_put_off_by_lists plan s state k)
+]
+  where
+    and_false : (b : Bool) → (b && false) ≡ false
+    and_false true = refl
+    and_false false = refl
+
+finds_one : (plan : SeenPlan) (s : ℕ) (state : LocalState) (i : ℕ) → can_put_off_by_lists plan s state i ≡ false → (doing : Doing) (bell : List ℕ) → 0 < rings_for i (places_heard doing ++ bell) → finds_no_ring plan s state doing bell ≡ false
+finds_one plan s state i none GoesOn bell ringing = finds_some plan s state i none bell ringing
+finds_one plan s state i none (HasToRing k kind) bell ringing = refl
+finds_one plan s state i none (HasToWake k) bell ringing = refl
+finds_one plan s state i none (HasToTake k) bell ringing = refl
+finds_one plan s state i none (Sleeps wants) bell ringing = refl
+finds_one plan s state i none (IsToBeWoken k) bell ringing = refl
 
 -- so its site has checked only if it had
-pub yet_to_check : (i : ℕ) (run : Run) (checked : ℕ → Bool) (s : ℕ) → checked s ≡ false → 0 < rings_for i (rings_left (thread_of run s)) → has_checked run checked s ≡ false
-yet_to_check i run checked s yet ringing = ap (λ (b : Bool). b || finds_no_ring (thread_of run s).doing (thread_of run s).bell) yet ∙ finds_one i (thread_of run s).doing (thread_of run s).bell ringing
+pub yet_to_check : (plan : SeenPlan) (i : ℕ) (run : Run) (checked : ℕ → Bool) (s : ℕ) → checked s ≡ false → can_put_off_by_lists plan s (state_of run.world s) i ≡ false → 0 < rings_for i (rings_left (thread_of run s)) → has_checked plan run checked s ≡ false
+yet_to_check plan i run checked s yet none ringing = ap (λ (b : Bool). b || finds_no_ring plan s (state_of run.world s) (thread_of run s).doing (thread_of run s).bell) yet
+    ∙ finds_one plan s (state_of run.world s) i none (thread_of run s).doing (thread_of run s).bell ringing
 
 -- nor has it after a step of any site
-pub yet_after : (run : Run) (x : ℕ) (checked : ℕ → Bool) (s : ℕ) → has_checked run checked s ≡ false → checked_after run x checked s ≡ false
-yet_after run x checked s yet = ap (λ (b : Bool). if s == x then false else b) yet ∙ neither (s == x)
+pub yet_after : (plan : SeenPlan) (run : Run) (x : ℕ) (checked : ℕ → Bool) (s : ℕ) → has_checked plan run checked s ≡ false → checked_after plan run x checked s ≡ false
+yet_after plan run x checked s yet = ap (λ (b : Bool). if s == x then false else b) yet ∙ neither (s == x)
 
 -- a site that has done a step has yet to check
-pub own_check_used : (run : Run) (s x : ℕ) (checked : ℕ → Bool) → s ≡ x → checked_after run x checked s ≡ false
-own_check_used run s x checked same = cond-true {A = Bool} (s == x) false (has_checked run checked s) (eq-eqb s x same)
+pub own_check_used : (plan : SeenPlan) (run : Run) (s x : ℕ) (checked : ℕ → Bool) → s ≡ x → checked_after plan run x checked s ≡ false
+own_check_used plan run s x checked same = cond-true {A = Bool} (s == x) false (has_checked plan run checked s) (eq-eqb s x same)

@@ -30,8 +30,8 @@ module _ (plan : SeenPlan) (checked : ℕ → Bool) (run : Run) (s : ℕ) (is_si
   CanStep polite = (new : Run) × (one : ThreadStep plan s run new) × IsInManner plan s checked run new one polite
 
   -- a thread that goes on and has no ring checks now
-  checks : (thread_of run s).doing ≡ GoesOn → (thread_of run s).bell ≡ [] → has_checked run checked s ≡ true
-  checks goes_on silent = ap (λ (doing : Doing). checked s || finds_no_ring doing (thread_of run s).bell) goes_on ∙ ap (λ (bell : List ℕ). checked s || finds_no_ring GoesOn bell) silent ∙ or_true (checked s)
+  checks : (thread_of run s).doing ≡ GoesOn → (thread_of run s).bell ≡ [] → has_checked plan run checked s ≡ true
+  checks goes_on silent = ap (λ (doing : Doing). checked s || finds_no_ring plan s (state_of run.world s) doing (thread_of run s).bell) goes_on ∙ ap (λ (bell : List ℕ). checked s || finds_no_ring plan s (state_of run.world s) GoesOn bell) silent ∙ or_true (checked s)
 
   -- before a meal a polite site hears the next ring, if there is one
   by_bell : (new : Run) (a : Acts plan s run new) → a.kind ≡ event.Begin → (bell : List ℕ) → (thread_of run s).bell ≡ bell → CanStep true
@@ -42,8 +42,10 @@ module _ (plan : SeenPlan) (checked : ℕ → Bool) (run : Run) (s : ℕ) (is_si
       goes_on = a.goes_on;
       turn = ap takes_letters a.next ∙ ap (λ (kind : EventKind). takes_letters (Some kind)) begins;
       i = i;
+      front = [];
       rest = rest;
       bell = ringing;
+      first = refl;
       world = refl;
       threads = refl;
     }),

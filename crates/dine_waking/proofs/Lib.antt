@@ -3,6 +3,10 @@ pub mod Quiet
 pub mod Letters
 pub mod Queues
 pub mod Asleep
+pub mod PutOff
+pub mod Calm
+pub mod Resting
+pub mod Doors
 pub mod Bells
 pub mod Acting
 pub mod Ringing
@@ -18,11 +22,14 @@ pub mod SiteMoves
 pub mod Answered
 pub mod Heard
 pub mod Polite
+pub mod Patient
 pub mod InManner
 pub mod TwoSites
+pub mod PatientSites
 pub mod TwoWorkers
 pub mod Rang
 pub mod Overtaking
 pub mod Waiters
+pub mod PatientWaiting
 pub mod Noting
 pub mod Closed

@@ -23,7 +23,7 @@ use Rattle.dine_waking.proofs.Bounded.{step_keeps, steps_keep}
 use Rattle.dine_waking.proofs.Polite.{HasTaken, manner_leads, no_meal, none_begins, one_begins, one_meal}
 use Rattle.dine_waking.proofs.SiteMoves.{SiteMoves, longer_forks, moves_begin, site_moves, step_eats, step_put, steps_eat, steps_put}
 
-same_or_more : (a b : ℕ) → a ≤ b → (b ≡ a) ⊎ (a < b)
+pub same_or_more : (a b : ℕ) → a ≤ b → (b ≡ a) ⊎ (a < b)
 same_or_more a b few = grind arith
 
 fewer_or_not : (a b : ℕ) → (a < b) ⊎ (b ≤ a)
@@ -33,7 +33,7 @@ fewer_or_not a b = grind arith
 
 module _ (plan : SeenPlan) (s i : ℕ) where
   -- if the fork has come, it is clean
-  abbrev IsUnused : LocalState → Type 0
+  abbrev pub IsUnused : LocalState → Type 0
   IsUnused state = fork_at plan s state i ≡ 1 → is_dirty (hand_at s state i) ≡ false
 
   still_unused : (old new : LocalState) → KeepsStreamsAt plan s old i → KeepsStreamsAt plan s new i → IsUnused old → IsStill plan s i old new → IsUnused new
@@ -65,10 +65,10 @@ module _ (plan : SeenPlan) (is_plan : IsPlan plan) (s i : ℕ) (is_site : s < si
   abbrev place : ℕ
   place = place_of plan (neighbour_at plan s i) (edge_at plan s i)
 
-  abbrev state : Run → LocalState
+  abbrev pub state : Run → LocalState
   state run = state_of run.world s
 
-  abbrev far : Run → LocalState
+  abbrev pub far : Run → LocalState
   far run = state_of run.world there
 
   ends : (run : Run) → RunKeeps plan run → Joined plan s i there place (state run) (far run) (queue_to plan run.world s i) (queue_to plan run.world there place)
@@ -85,7 +85,7 @@ module _ (plan : SeenPlan) (is_plan : IsPlan plan) (s i : ℕ) (is_site : s < si
   far_given run = forks_in (traffic_at (far run) place).put
 
   -- the fork is gone: it is not here, and nowhere on its way here
-  abbrev IsGone : Run → Type 0
+  abbrev pub IsGone : Run → Type 0
   IsGone run = cond (is_lower_at plan s i) 1 0 + far_given run ≤ forks_given run s i
 
   -- a neighbour whose Request is in the link has neither
@@ -101,7 +101,7 @@ module _ (plan : SeenPlan) (is_plan : IsPlan plan) (s i : ℕ) (is_site : s < si
       ))
 
   -- its Request is in the link, or the site has taken it, or the fork is gone
-  where_request : (run : Run) → RunKeeps plan run → WaitsForFork plan run there place → IsAsked plan run s i ⊎ (HasTaken plan is_plan s i is_site within run ⊎ IsGone run)
+  pub where_request : (run : Run) → RunKeeps plan run → WaitsForFork plan run there place → IsAsked plan run s i ⊎ (HasTaken plan is_plan s i is_site within run ⊎ IsGone run)
   where_request run keeps waits =
       let both = ends run keeps in
       let asked : forks_in (traffic_at (far run) place).taken < requests_in (traffic_at (far run) place).put = waiter_put_more plan there place (far run) (far_keeps run keeps) waits.0 waits.1 in
@@ -159,7 +159,7 @@ module _ (plan : SeenPlan) (is_plan : IsPlan plan) (s i : ℕ) (is_site : s < si
       let last = waits_on m w.0 new keeps_next next.0 w.2 (ate ∙ sym ate_next) in
       (last.0, last.1 ∙ next.1)
 
-  gone_for_long : (m : ℕ) (old new : Run) → RunKeeps plan old → IsUnused plan there place (far old) → IsGone old → LeadsBySteps plan m old new → meals_so_far new there ≡ meals_so_far old there → meals_so_far new s ≡ meals_so_far old s
+  pub gone_for_long : (m : ℕ) (old new : Run) → RunKeeps plan old → IsUnused plan there place (far old) → IsGone old → LeadsBySteps plan m old new → meals_so_far new there ≡ meals_so_far old there → meals_so_far new s ≡ meals_so_far old s
   gone_for_long zero old new keeps unused gone same ate = ap (λ (run : Run). meals_so_far run s) (sym same)
   gone_for_long (suc m) old new keeps unused gone w ate =
       let keeps_next : RunKeeps plan w.0 = step_keeps plan is_plan old w.0 keeps w.1.site w.1.is_site w.1.step in
@@ -178,7 +178,7 @@ module _ (plan : SeenPlan) (is_plan : IsPlan plan) (s i : ℕ) (is_site : s < si
     pub behind : ℕ
     pub leads : LeadsInManner plan is_polite before checked old checked_there between
     pub gives : MannerStep plan is_polite checked_there between next
-    pub goes_on : LeadsInManner plan is_polite behind (checked_after between gives.step.site checked_there) next checked_then new
+    pub goes_on : LeadsInManner plan is_polite behind (checked_after plan between gives.step.site checked_there) next checked_then new
     pub not_given : forks_given between s i ≡ forks_given old s i
     pub given : forks_given old s i < forks_given next s i
 
@@ -186,7 +186,7 @@ module _ (plan : SeenPlan) (is_plan : IsPlan plan) (s i : ℕ) (is_site : s < si
   first_give is_polite checked checked_then zero old new same more = absurd (omega (arith, ap (λ (run : Run). forks_given run s i) same.1))
   first_give is_polite checked checked_then (suc m) old new w more =
       let one : ThreadStep plan w.1.step.site old w.0 = w.1.step.step in
-      let after_it : ℕ → Bool = checked_after old w.1.step.site checked in
+      let after_it : ℕ → Bool = checked_after plan old w.1.step.site checked in
       elim (same_or_more (forks_given old s i) (forks_given w.0 s i) (longer_forks (traffic_at (state old) i).put (traffic_at (state w.0) i).put (step_put plan w.1.step.site old w.0 one s i))) [
         | inl same ↦
             let rest : FirstGive is_polite after_it checked_then w.0 new = first_give is_polite after_it checked_then m w.0 new w.2 (omega arith) in
@@ -226,7 +226,7 @@ module _ (plan : SeenPlan) (is_plan : IsPlan plan) (s i : ℕ) (is_site : s < si
   -- ---- from the moment of the ring until the neighbour begins a meal
 
   -- from the give on no meal begins
-  none_behind : (n m : ℕ) (old between next new : Run) → RunKeeps plan old → IsUnused plan there place (far old) → LeadsBySteps plan n old between → RunStep plan between next → LeadsBySteps plan m next new
+  pub none_behind : (n m : ℕ) (old between next new : Run) → RunKeeps plan old → IsUnused plan there place (far old) → LeadsBySteps plan n old between → RunStep plan between next → LeadsBySteps plan m next new
       → forks_given between s i ≡ forks_given old s i → forks_given old s i < forks_given next s i → meals_so_far new there ≡ meals_so_far old there → meals_so_far new s ≡ meals_so_far between s
   none_behind n m old between next new keeps unused_first to_between gives from_next not_given given ate =
       let keeps_between : RunKeeps plan between = steps_keep plan is_plan n old between keeps to_between in
@@ -258,7 +258,7 @@ module _ (plan : SeenPlan) (is_plan : IsPlan plan) (s i : ℕ) (is_site : s < si
     | inl same ↦ bound m checked_then new leads same
     | inr give ↦
         let to_between : LeadsBySteps plan give.before old give.between = manner_leads plan is_polite checked give.checked_there give.before old give.between give.leads in
-        let from_next : LeadsBySteps plan give.behind give.next new = manner_leads plan is_polite (checked_after give.between give.gives.step.site give.checked_there) checked_then give.behind give.next new give.goes_on in
+        let from_next : LeadsBySteps plan give.behind give.next new = manner_leads plan is_polite (checked_after plan give.between give.gives.step.site give.checked_there) checked_then give.behind give.next new give.goes_on in
         omega (
           arith,
           none_behind give.before give.behind old give.between give.next new keeps unused to_between give.gives.step from_next give.not_given give.given ate,
@@ -306,7 +306,7 @@ module _ (plan : SeenPlan) (is_plan : IsPlan plan) (s i : ℕ) (is_site : s < si
   pub gives_soon : (is_polite : ℕ → Bool) → is_polite s ≡ true → (checked checked_then : ℕ → Bool) (old : Run) → RunKeeps plan old → IsAsked plan old s i → HasRungForAll plan old s i → (m : ℕ) (new : Run) → LeadsInManner plan is_polite m checked old checked_then new
       → forks_given old s i < forks_given new s i
       → (before : ℕ) × (checked_there : ℕ → Bool) × (between : Run) × (next : Run) × (behind : ℕ) × LeadsInManner plan is_polite before checked old checked_there between × (gives : MannerStep plan is_polite checked_there between next)
-      × LeadsInManner plan is_polite behind (checked_after between gives.step.site checked_there) next checked_then new
+      × LeadsInManner plan is_polite behind (checked_after plan between gives.step.site checked_there) next checked_then new
       × (forks_given between s i ≡ forks_given old s i) × (forks_given old s i < forks_given next s i) × (meals_so_far between s ≤ meals_so_far old s + 1)
   gives_soon is_polite polite checked checked_then old keeps asked rung m new leads given =
       let give : FirstGive is_polite checked checked_then old new = first_give is_polite checked checked_then m old new leads given in (

@@ -18,18 +18,19 @@ use Rattle.dine_rules.proofs.links.Links.{link_holds}
 use Rattle.dine_rules.proofs.precedence.PreferenceSteps.{IsEaten, begin_eats}
 use Rattle.dine_rules.proofs.links.WorldStreams.{WorldKeeps, reached_kept}
 use Rattle.dine_waking.specs.Manners.{HasRungForAll, HoldsDirtyFork, IsAsked, IsInManner, LeadsInManner, MannerStep, forks_given, has_checked, checked_after, meals_so_far}
-use Rattle.dine_waking.specs.Runs.{LeadsBySteps, Run, RunStep, ThreadStep, rings_left, thread_of}
+use Rattle.dine_waking.specs.Runs.{LeadsBySteps, Run, RunStep, ThreadStep, rings_for, rings_left, thread_of}
 use Rattle.dine_waking.proofs.Accounts.{account}
 use Rattle.dine_waking.proofs.AskedPlaces.{asked_holds, begins_clean, hand_stays}
 use Rattle.dine_waking.proofs.Bells.{RunKeeps}
 use Rattle.dine_waking.proofs.Bounded.{step_keeps}
-use Rattle.dine_waking.proofs.Heard.{AtPlace, Begun, Stays, Took, other_step, own_check_used, own_step, rings_for, yet_after, yet_to_check}
+use Rattle.dine_waking.proofs.Heard.{AtPlace, Begun, Stays, Took, other_step, own_check_used, own_step, yet_after, yet_to_check}
+use Rattle.dine_waking.proofs.PutOff.{dirty_puts_off_none}
 use Rattle.dine_waking.proofs.SiteMoves.{longer_forks, moves_begin, site_moves, step_put, step_taken, steps_put}
 
 -- steps in a manner are steps
 pub manner_leads : (plan : SeenPlan) (is_polite checked checked_then : ℕ → Bool) (n : ℕ) (old new : Run) → LeadsInManner plan is_polite n checked old checked_then new → LeadsBySteps plan n old new
 manner_leads plan is_polite checked checked_then zero old new same = same.1
-manner_leads plan is_polite checked checked_then (suc n) old new w = (w.0, w.1.step, manner_leads plan is_polite (checked_after old w.1.step.site checked) checked_then n w.0 new w.2)
+manner_leads plan is_polite checked checked_then (suc n) old new w = (w.0, w.1.step, manner_leads plan is_polite (checked_after plan old w.1.step.site checked) checked_then n w.0 new w.2)
 
 -- ---- where a Request lies
 
@@ -75,14 +76,14 @@ module _ (plan : SeenPlan) (is_plan : IsPlan plan) (s i : ℕ) (is_site : s < si
   -- ---- one step, and steps behind it in which no fork is given
 
   module _ (old next new : Run) (m x : ℕ) (one : ThreadStep plan x old next) (more : LeadsBySteps plan m next new) (given : forks_given new s i ≡ forks_given old s i) where
-    given_first : forks_given next s i ≡ forks_given old s i
+    pub given_first : forks_given next s i ≡ forks_given old s i
     given_first = omega (
       arith,
       longer_forks (traffic_at (state old) i).put (traffic_at (state next) i).put (step_put plan x old next one s i),
       longer_forks (traffic_at (state next) i).put (traffic_at (state new) i).put (steps_put plan m next new more s i),
     )
 
-    given_then : forks_given new s i ≡ forks_given next s i
+    pub given_then : forks_given new s i ≡ forks_given next s i
     given_then = given ∙ sym given_first
 
     taken_longer : IsLonger (traffic_at (state old) i).taken (traffic_at (state next) i).taken
@@ -91,7 +92,7 @@ module _ (plan : SeenPlan) (is_plan : IsPlan plan) (s i : ℕ) (is_site : s < si
     still_taken : HasTaken old → HasTaken next
     still_taken taken = omega (arith, given_first, ap requests_in taken_longer.is, requests_in-append (traffic_at (state old) i).taken taken_longer.more)
 
-    still_dirty : RunKeeps plan old → RunKeeps plan next → fork_at plan s (state old) i ≡ 1 → IsDirty old → meals_so_far next s ≡ meals_so_far old s → HoldsDirtyFork plan next s i
+    pub still_dirty : RunKeeps plan old → RunKeeps plan next → fork_at plan s (state old) i ≡ 1 → IsDirty old → meals_so_far next s ≡ meals_so_far old s → HoldsDirtyFork plan next s i
     still_dirty keeps keeps_next one_fork dirty ate =
         let w = hand_stays plan s i (state old) (state next) (place_keeps old keeps) (place_keeps next keeps_next) taken_longer given_first one_fork ate in
         (w.0, ap is_dirty w.1 ∙ dirty)
@@ -127,12 +128,12 @@ module _ (plan : SeenPlan) (is_plan : IsPlan plan) (s i : ℕ) (is_site : s < si
   -- ---- the Request lies in the link, and was rung for
 
   -- letter k of the link is a Request, the site has not taken it, and has a ring left for it
-  record Lies (run : Run) (k edge : ℕ) : Type 0 where
-    request : slice_get (put_to plan run.world s i) k ≡ Some (letter.Request edge)
-    untaken : length (traffic_at (state run) i).taken ≤ k
-    ringing : k < length (traffic_at (state run) i).taken + rings_for i (rings_left (thread_of run s))
+  pub record Lies (run : Run) (k edge : ℕ) : Type 0 where
+    pub request : slice_get (put_to plan run.world s i) k ≡ Some (letter.Request edge)
+    pub untaken : length (traffic_at (state run) i).taken ≤ k
+    pub ringing : k < length (traffic_at (state run) i).taken + rings_for i (rings_left (thread_of run s))
 
-  asked_lies : (run : Run) → RunKeeps plan run → IsAsked plan run s i → HasRungForAll plan run s i → (k edge : ℕ) × Lies run k edge
+  pub asked_lies : (run : Run) → RunKeeps plan run → IsAsked plan run s i → HasRungForAll plan run s i → (k edge : ℕ) × Lies run k edge
   asked_lies run keeps asked rung =
       let taken : List Letter = (traffic_at (state run) i).taken in
       let w = request_among (queue_to plan run.world s i) asked in (
@@ -149,7 +150,7 @@ module _ (plan : SeenPlan) (is_plan : IsPlan plan) (s i : ℕ) (is_site : s < si
   record BeginsHere (is_polite checked : ℕ → Bool) (old next : Run) (w : MannerStep plan is_polite checked old next) : Type 0 where
     here : s ≡ w.step.site
     begun : Begun plan s i old next
-    by_check : is_polite s ≡ true → has_checked old checked s ≡ true
+    by_check : is_polite s ≡ true → has_checked plan old checked s ≡ true
 
   -- the next step of a run, where the site has a ring left
   at_place : (is_polite checked : ℕ → Bool) (old next : Run) → RunKeeps plan old → (w : MannerStep plan is_polite checked old next) → 0 < rings_for i (rings_left (thread_of old s)) → AtPlace plan s i old next ⊎ BeginsHere is_polite checked old next w
@@ -164,7 +165,7 @@ module _ (plan : SeenPlan) (is_plan : IsPlan plan) (s i : ℕ) (is_site : s < si
   ]
 
   -- the Request lies there still, or it was taken; no meal has begun
-  waits_on : (k edge : ℕ) (old next : Run) → RunKeeps plan old → Lies old k edge → (w : RunStep plan old next) → forks_given next s i ≡ forks_given old s i → AtPlace plan s i old next
+  pub waits_on : (k edge : ℕ) (old next : Run) → RunKeeps plan old → Lies old k edge → (w : RunStep plan old next) → forks_given next s i ≡ forks_given old s i → AtPlace plan s i old next
       → (meals_so_far next s ≡ meals_so_far old s) × (Lies next k edge ⊎ HasTaken next)
   waits_on k edge old next keeps lies w given (Stays ate taken rings) = (
     ate,
@@ -192,7 +193,7 @@ module _ (plan : SeenPlan) (is_plan : IsPlan plan) (s i : ℕ) (is_site : s < si
       )
 
   -- a Begin leaves the Request there, and the fork dirty
-  begun_lies : (k edge x : ℕ) (old next : Run) → Lies old k edge → ThreadStep plan x old next → Begun plan s i old next → Lies next k edge
+  pub begun_lies : (k edge x : ℕ) (old next : Run) → Lies old k edge → ThreadStep plan x old next → Begun plan s i old next → Lies next k edge
   begun_lies k edge x old next lies one begun =
       let same_taken : (traffic_at (state next) i).taken ≡ (traffic_at (state old) i).taken = ap (λ (x : LocalState). (traffic_at x i).taken) begun.changes in
       record {
@@ -201,7 +202,7 @@ module _ (plan : SeenPlan) (is_plan : IsPlan plan) (s i : ℕ) (is_site : s < si
         ringing = omega (arith, lies.ringing, begun.rings, ap (λ (letters : List Letter). length letters) same_taken);
       }
 
-  begun_dirty : (old next : Run) → RunKeeps plan old → Begun plan s i old next → HoldsDirtyFork plan next s i
+  pub begun_dirty : (old next : Run) → RunKeeps plan old → Begun plan s i old next → HoldsDirtyFork plan next s i
   begun_dirty old next keeps begun = (
     ap (λ (x : LocalState). fork_at plan s x i) begun.changes ∙ (eats old keeps begun.needs).held,
     ap (λ (x : LocalState). is_dirty (hand_at s x i)) begun.changes ∙ (eats old keeps begun.needs).dirty,
@@ -213,19 +214,19 @@ module _ (plan : SeenPlan) (is_plan : IsPlan plan) (s i : ℕ) (is_site : s < si
     none_waited zero checked checked_then old new keeps lies dirty yet same given = ap (λ (run : Run). meals_so_far run s) (sym same.1)
     none_waited (suc m) checked checked_then old new keeps lies dirty yet w given =
         let does : RunStep plan old w.0 = w.1.step in
-        let after_it : ℕ → Bool = checked_after old does.site checked in
+        let after_it : ℕ → Bool = checked_after plan old does.site checked in
         let more : LeadsBySteps plan m w.0 new = manner_leads plan is_polite after_it checked_then m w.0 new w.2 in
         let keeps_next : RunKeeps plan w.0 = step_keeps plan is_plan old w.0 keeps does.site does.is_site does.step in
         let given_next : forks_given new s i ≡ forks_given w.0 s i = given_then old w.0 new m does.site does.step more given in
         let ringing : 0 < rings_for i (rings_left (thread_of old s)) = omega (arith, lies.untaken, lies.ringing) in
-        let still_yet : has_checked old checked s ≡ false = yet_to_check i old checked s yet ringing in
+        let still_yet : has_checked plan old checked s ≡ false = yet_to_check plan i old checked s yet (dirty_puts_off_none plan s (state old) i dirty.1) ringing in
         elim (at_place is_polite checked old w.0 keeps w.1 ringing) [
           | inr begins ↦ absurd (false≢true (sym still_yet ∙ begins.by_check polite))
           | inl at ↦
               let on = waits_on k edge old w.0 keeps lies does (given_first old w.0 new m does.site does.step more given) at in
               let dirty_next : HoldsDirtyFork plan w.0 s i = still_dirty old w.0 new m does.site does.step more given keeps keeps_next dirty.0 dirty.1 on.0 in
               elim on.1 [
-                | inl lies_next ↦ none_waited m after_it checked_then w.0 new keeps_next lies_next dirty_next (yet_after old does.site checked s still_yet) w.2 given_next ∙ on.0
+                | inl lies_next ↦ none_waited m after_it checked_then w.0 new keeps_next lies_next dirty_next (yet_after plan old does.site checked s still_yet) w.2 given_next ∙ on.0
                 | inr taken ↦ none_begins m w.0 new keeps_next taken dirty_next.1 more given_next ∙ on.0
               ]
         ]
@@ -235,14 +236,14 @@ module _ (plan : SeenPlan) (is_plan : IsPlan plan) (s i : ℕ) (is_site : s < si
     one_waited zero checked checked_then old new keeps lies same given = omega (arith, ap (λ (run : Run). meals_so_far run s) same.1)
     one_waited (suc m) checked checked_then old new keeps lies w given =
         let does : RunStep plan old w.0 = w.1.step in
-        let after_it : ℕ → Bool = checked_after old does.site checked in
+        let after_it : ℕ → Bool = checked_after plan old does.site checked in
         let more : LeadsBySteps plan m w.0 new = manner_leads plan is_polite after_it checked_then m w.0 new w.2 in
         let keeps_next : RunKeeps plan w.0 = step_keeps plan is_plan old w.0 keeps does.site does.is_site does.step in
         let given_next : forks_given new s i ≡ forks_given w.0 s i = given_then old w.0 new m does.site does.step more given in
         elim (at_place is_polite checked old w.0 keeps w.1 (omega (arith, lies.untaken, lies.ringing))) [
           | inr begins ↦
               let none : meals_so_far new s ≡ meals_so_far w.0 s = none_waited m after_it checked_then w.0 new keeps_next (begun_lies k edge does.site old w.0 lies does.step begins.begun) (begun_dirty old w.0 keeps begins.begun)
-              (own_check_used old s does.site checked begins.here) w.2 given_next in
+              (own_check_used plan old s does.site checked begins.here) w.2 given_next in
               omega (arith, ap (λ (x : LocalState). x.ate) begins.begun.changes, none)
           | inl at ↦
               let on = waits_on k edge old w.0 keeps lies does (given_first old w.0 new m does.site does.step more given) at in

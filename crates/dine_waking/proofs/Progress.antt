@@ -22,7 +22,7 @@ use Rattle.dine_site_core.specs.CoreWants.{wants_by_lists}
 use Rattle.dine_site_core.specs.NextEvent.{may_by_itself, next_event, own_kinds}
 use Rattle.dine_site_core.specs.Standing.{all_places, has_finished}
 use Rattle.dine_waking.specs.Sleeping.{AllSleepWell, ArePlacesBelow, Coming, SleepsWell, letters_coming_at}
-use Rattle.dine_waking.specs.Runs.{ByActing, ByHearing, ByRinging, BySleeping, ByTaking, ByWaking, Doing, GoesOn, RunHasEnded, HasToRing, Run, RunStep, Sleeps, HasToTake, Thread, ThreadStep, HasToWake, IsToBeWoken, after_ringing, doing_after, fresh_thread, is_woken_by, places_heard, number_there, thread_after_ring, takes_letters, thread_of}
+use Rattle.dine_waking.specs.Runs.{ByActing, ByHearing, ByRinging, BySleeping, ByTaking, ByWaking, Doing, GoesOn, RunHasEnded, HasToRing, Run, RunStep, Sleeps, HasToTake, Thread, ThreadStep, HasToWake, IsToBeWoken, after_ringing, doing_after, fresh_thread, is_woken_by, places_heard, number_there, rings_for, thread_after_ring, takes_letters, thread_of}
 use Rattle.dine_waking.proofs.Quiet.{first_is_next}
 use Rattle.dine_waking.proofs.Letters.{first_at}
 use Rattle.dine_waking.proofs.Queues.{event_happens, take_happens}
@@ -131,8 +131,19 @@ module _ (plan : SeenPlan) (is_plan : IsPlan plan) (run : Run) (keeps : RunKeeps
       let happens = own_happens plan run.world s is_site kind (found_passes (may_by_itself plan s state) (own_kinds (all_places state)) kind next) in
       inl (record { world = happens.0; threads = slice_set run.threads s (record { doing = doing_after kind; bell = thread.bell }) }, ByActing (record { goes_on = on; kind = kind; next = next; world = happens.1; threads = refl }))
   goes_on on None next (i ∷ rest) ringing b finished =
-      inl (record { world = run.world; threads = slice_set run.threads s (record { doing = HasToTake i; bell = rest }) }, ByHearing (record { goes_on = on; turn = ap takes_letters next; i = i; rest = rest; bell = ringing; world = refl; threads = refl }))
-  goes_on on None next [] ringing false finished = inl (record { world = run.world; threads = slice_set run.threads s (record { doing = Sleeps (wants_by_lists plan s state); bell = [] }) }, BySleeping (record { goes_on = on; idle = next; unfinished = finished; silent = ringing; world = refl; threads = refl }))
+      inl (record { world = run.world; threads = slice_set run.threads s (record { doing = HasToTake i; bell = rest }) }, ByHearing (record { goes_on = on; turn = ap takes_letters next; i = i; front = []; rest = rest; bell = ringing; first = refl; world = refl; threads = refl }))
+  goes_on on None next [] ringing false finished = inl (
+    record { world = run.world; threads = slice_set run.threads s (record { doing = Sleeps (wants_by_lists plan s state); bell = thread.bell }) },
+    BySleeping (record {
+      goes_on = on;
+      idle = next;
+      unfinished = finished;
+      put_off = λ i some. absurd (omega (arith, some, ap (rings_for i) ringing));
+      once = λ i. omega (arith, ap (rings_for i) ringing);
+      world = refl;
+      threads = refl;
+    }),
+  )
   goes_on on None next [] ringing true finished = inr (record {
     quiet = λ place letters unrung. subst (λ (d : Doing). IsUnrung d place letters) on unrung;
     wakes_none = λ i is. let e : GoesOn ≡ HasToWake i = sym on ∙ is in cc;

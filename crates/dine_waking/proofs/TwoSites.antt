@@ -20,11 +20,11 @@ use Rattle.dine_waking.specs.Mistakes.{LeadsByOneCheck}
 use Rattle.dine_waking.specs.Runs.{Acts, ByActing, GoesOn, Run, Thread}
 use Rattle.dine_waking.proofs.Queues.{event_happens}
 
-or_true_and : (b : Bool) → ((b || true) && true) ≡ true
+pub or_true_and : (b : Bool) → ((b || true) && true) ≡ true
 or_true_and true = refl
 or_true_and false = refl
 
-never_drops : (failed : Bool) (more : Bool) → (failed && false && more) ≡ false
+pub never_drops : (failed : Bool) (more : Bool) → (failed && false && more) ≡ false
 never_drops true more = refl
 never_drops false more = refl
 
@@ -40,31 +40,31 @@ module _ (k : ℕ) (polite : Bool) (bell : List ℕ) (higher : Thread) where
   jobs = length-replicate k named_job
 
   -- the lower site
-  abbrev site : Phase → ℕ → LocalState
+  abbrev pub site : Phase → ℕ → LocalState
   site does n = record (state_in does [] []) { ate = n }
 
-  abbrev at : Phase → ℕ → Run
+  abbrev pub at : Phase → ℕ → Run
   at does n = record { world = site does n ∷ state_in phase.Hungry (request ∷ []) [] ∷ []; threads = at_work GoesOn bell ∷ higher ∷ [] }
 
-  in_manner : (checked : ℕ → Bool) (old new : Run) (a : Acts plan 0 old new) (b : Bool) → (b ≡ true → a.kind ≡ event.Begin → has_checked old checked 0 ≡ true) → IsInManner plan 0 checked old new (ByActing a) b
+  pub in_manner : (checked : ℕ → Bool) (old new : Run) (a : Acts plan 0 old new) (b : Bool) → (b ≡ true → a.kind ≡ event.Begin → has_checked plan old checked 0 ≡ true) → IsInManner plan 0 checked old new (ByActing a) b
   in_manner checked old new a true checks = checks refl
   in_manner checked old new a false checks = tt
 
-  abbrev one_step : (checked : ℕ → Bool) (old new : Run) (a : Acts plan 0 old new) → (polite ≡ true → a.kind ≡ event.Begin → has_checked old checked 0 ≡ true) → MannerStep plan (λ s. polite) checked old new
+  abbrev one_step : (checked : ℕ → Bool) (old new : Run) (a : Acts plan 0 old new) → (polite ≡ true → a.kind ≡ event.Begin → has_checked plan old checked 0 ≡ true) → MannerStep plan (λ s. polite) checked old new
   one_step checked old new a checks = record { step = record { site = 0; is_site = omega arith; step = ByActing a }; in_manner = in_manner checked old new a polite checks }
 
   -- a polite one that has no ring has checked
-  checks_now : (polite ≡ true → bell ≡ []) → (checked : ℕ → Bool) (n : ℕ) → polite ≡ true → has_checked (at phase.Hungry n) checked 0 ≡ true
-  checks_now silent checked n is = ap (λ (rings : List ℕ). checked 0 || finds_no_ring GoesOn rings) (silent is) ∙ or_true (checked 0)
+  checks_now : (polite ≡ true → bell ≡ []) → (checked : ℕ → Bool) (n : ℕ) → polite ≡ true → has_checked plan (at phase.Hungry n) checked 0 ≡ true
+  checks_now silent checked n is = ap (λ (rings : List ℕ). checked 0 || finds_no_ring plan 0 (site phase.Hungry n) GoesOn rings) (silent is) ∙ or_true (checked 0)
 
   -- it grows hungry
   module _ (checked : ℕ → Bool) (n : ℕ) (left : n < k) where
-    may_hunger : may plan 0 (site phase.Thinking n) step.Hungry ≡ true
+    pub may_hunger : may plan 0 (site phase.Thinking n) step.Hungry ≡ true
     may_hunger =
         let more : nat_lt n (job_count plan 0) ≡ true = lt-ltb n (job_count plan 0) (omega (arith, jobs)) in
         ap (λ (b : Bool). b && true) more
 
-    abbrev hungers : MannerStep plan (λ s. polite) checked (at phase.Thinking n) (at phase.Hungry n)
+    abbrev pub hungers : MannerStep plan (λ s. polite) checked (at phase.Thinking n) (at phase.Hungry n)
     hungers = one_step checked (at phase.Thinking n) (at phase.Hungry n) (record {
       goes_on = refl;
       kind = event.Hungry;
@@ -74,10 +74,10 @@ module _ (k : ℕ) (polite : Bool) (bell : List ℕ) (higher : Thread) where
     }) (λ polite is. absurd cc)
 
     -- it begins a meal
-    may_begin : may plan 0 (site phase.Hungry n) step.Begin ≡ true
+    pub may_begin : may plan 0 (site phase.Hungry n) step.Begin ≡ true
     may_begin = or_true_and (not (is_dirty (hand_at 0 (site phase.Hungry n) 0)))
 
-    abbrev begins : (polite ≡ true → has_checked (at phase.Hungry n) checked 0 ≡ true) → MannerStep plan (λ s. polite) checked (at phase.Hungry n) (at phase.Eating (n + 1))
+    abbrev pub begins : (polite ≡ true → has_checked plan (at phase.Hungry n) checked 0 ≡ true) → MannerStep plan (λ s. polite) checked (at phase.Hungry n) (at phase.Eating (n + 1))
     begins checks = one_step checked (at phase.Hungry n) (at phase.Eating (n + 1)) (record {
       goes_on = refl;
       kind = event.Begin;
@@ -87,7 +87,7 @@ module _ (k : ℕ) (polite : Bool) (bell : List ℕ) (higher : Thread) where
     }) (λ is begins. checks is)
 
     -- it ends the meal
-    abbrev ends : MannerStep plan (λ s. polite) checked (at phase.Eating (n + 1)) (at phase.Thinking (n + 1))
+    abbrev pub ends : MannerStep plan (λ s. polite) checked (at phase.Eating (n + 1)) (at phase.Thinking (n + 1))
     ends =
         let failed : Bool = meal_fails plan 0 (site phase.Eating (n + 1)) in
         one_step checked (at phase.Eating (n + 1)) (at phase.Thinking (n + 1)) (record {
@@ -106,9 +106,9 @@ module _ (k : ℕ) (polite : Bool) (bell : List ℕ) (higher : Thread) where
   eats_on silent checked (suc left) n all =
       let three : suc (suc (suc (3 * left))) ≡ 3 * suc left = omega arith in
       let more : n < k = omega arith in
-      let second : ℕ → Bool = checked_after (at phase.Thinking n) 0 checked in
-      let third : ℕ → Bool = checked_after (at phase.Hungry n) 0 second in
-      let rest = eats_on silent (checked_after (at phase.Eating (n + 1)) 0 third) left (n + 1) (omega arith) in (
+      let second : ℕ → Bool = checked_after plan (at phase.Thinking n) 0 checked in
+      let third : ℕ → Bool = checked_after plan (at phase.Hungry n) 0 second in
+      let rest = eats_on silent (checked_after plan (at phase.Eating (n + 1)) 0 third) left (n + 1) (omega arith) in (
         rest.0,
         subst (λ (m : ℕ). LeadsInManner plan (λ s. polite) m checked (asked_run n (at_work GoesOn bell) higher) rest.0 (asked_run k (at_work GoesOn bell) higher)) three
             (at phase.Hungry n, hungers checked n more, (at phase.Eating (n + 1), begins second n more (checks_now silent second n), (at phase.Thinking (n + 1), ends third n more, rest.1))),

@@ -61,7 +61,7 @@ pub rings_for_request : RunStep two_workers asks rang
 rings_for_request = higher_does asks rang (ByRinging (record { i = 0; kind = kind.Request; anyway = false; rings = refl; world = refl; threads = refl }))
 
 pub falls_asleep : RunStep two_workers rang asleep_run
-falls_asleep = higher_does rang asleep_run (BySleeping (record { goes_on = refl; idle = refl; unfinished = refl; silent = refl; world = refl; threads = refl }))
+falls_asleep = higher_does rang asleep_run (BySleeping (record { goes_on = refl; idle = refl; unfinished = refl; put_off = λ i some. absurd (omega (arith, some)); once = λ i. omega arith; world = refl; threads = refl }))
 
 -- ---- the lower one gives the fork, whatever the thread of the higher one is at
 module _ (higher : Thread) where
@@ -94,7 +94,7 @@ module _ (higher : Thread) where
   grows_hungry_too = lower_does heard_none hungry_too (ByActing (record { goes_on = refl; kind = event.Hungry; next = refl; world = refl; threads = refl }))
 
   pub hears : RunStep two_workers hungry_too heard_ring
-  hears = lower_does hungry_too heard_ring (ByHearing (record { goes_on = refl; turn = refl; i = 0; rest = []; bell = refl; world = refl; threads = refl }))
+  hears = lower_does hungry_too heard_ring (ByHearing (record { goes_on = refl; turn = refl; i = 0; front = []; rest = []; bell = refl; first = refl; world = refl; threads = refl }))
 
   pub takes : RunStep two_workers heard_ring took_request
   takes = lower_does heard_ring took_request (ByTaking (record { i = 0; takes = refl; world = refl; threads = refl }))
@@ -119,7 +119,7 @@ unfolding marks_of
 rings_unwanted rings = lower_does (asked_again (sleeper rings)) (request_rung (sleeper (rings ++ 0 ∷ []))) (ByRinging (record { i = 0; kind = kind.Request; anyway = false; rings = refl; world = refl; threads = refl }))
 
 pub falls_asleep_too : (rings : List ℕ) → RunStep two_workers (request_rung (sleeper rings)) (hung_run rings)
-falls_asleep_too rings = lower_does (request_rung (sleeper rings)) (hung_run rings) (BySleeping (record { goes_on = refl; idle = refl; unfinished = refl; silent = refl; world = refl; threads = refl }))
+falls_asleep_too rings = lower_does (request_rung (sleeper rings)) (hung_run rings) (BySleeping (record { goes_on = refl; idle = refl; unfinished = refl; put_off = λ i some. absurd (omega (arith, some)); once = λ i. omega arith; world = refl; threads = refl }))
 
 -- a site that sleeps does no step
 asleep_does_none : (plan : SeenPlan) (s : ℕ) (old new : Run) (wants : SeenWants) → (thread_of old s).doing ≡ Sleeps wants → ThreadStep plan s old new → ⊥

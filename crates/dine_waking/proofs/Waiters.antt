@@ -11,21 +11,21 @@ use Rattle.dine_waking.proofs.Polite.{manner_leads}
 use Rattle.dine_waking.proofs.Waking.{leads_back}
 
 module _ (plan : SeenPlan) (is_plan : IsPlan plan) (t j : ℕ) (within : j < length (edges_of plan t)) where
-  abbrev end : ℕ
+  abbrev pub end : ℕ
   end = neighbour_at plan t j
 
-  abbrev number : ℕ
+  abbrev pub number : ℕ
   number = number_there plan t j
 
   -- seen from the neighbour, the site is at the other end
-  back : neighbour_at plan end number ≡ t
+  pub back : neighbour_at plan end number ≡ t
   back = (across plan t j is_plan within).back
 
   place : number_there plan end number ≡ j
   place = leads_back plan is_plan t j within
 
   -- what holds of the site and its place holds of them seen from there, and the other way round
-  seen_there : (P : ℕ → ℕ → Type 0) → P t j → P (neighbour_at plan end number) (number_there plan end number)
+  pub seen_there : (P : ℕ → ℕ → Type 0) → P t j → P (neighbour_at plan end number) (number_there plan end number)
   seen_there P here = subst (λ (x : ℕ). P x (number_there plan end number)) (sym back) (subst (P t) (sym place) here)
 
   seen_here : (P : ℕ → ℕ → Type 0) → P (neighbour_at plan end number) (number_there plan end number) → P t j

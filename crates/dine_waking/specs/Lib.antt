@@ -1,7 +1,10 @@
 pub mod Sleeping
+pub mod Resting
+pub mod Doors
 pub mod Runs
 pub mod Examples
 pub mod Manners
+pub mod Patience
 pub mod MannerExamples
 pub mod Mistakes
 pub mod Code

@@ -26,6 +26,14 @@ asked_back_run = record {
   threads = at_work GoesOn [] ∷ at_work GoesOn (0 ∷ 0 ∷ []) ∷ [];
 }
 
+-- Between the two: the higher site has taken the Fork, which is clean. It has not taken the Request, and has the ring
+-- for it left.
+abbrev pub fork_taken_run : Run
+fork_taken_run = record {
+  world = state_in Hungry (fork_given_first ∷ request ∷ []) (request ∷ []) ∷ state_in Hungry (request ∷ []) (fork_given_first ∷ []) ∷ [];
+  threads = at_work GoesOn [] ∷ at_work GoesOn (0 ∷ []) ∷ [];
+}
+
 -- the higher site has taken both letters and has begun its meal, and has given no fork
 abbrev pub eats_first_run : Run
 eats_first_run = record {

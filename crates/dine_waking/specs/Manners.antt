@@ -1,35 +1,43 @@
 -- Runs in which each site takes letters in its manner. It is polite or eager.
-use Rattle.std.specs.Prelude.{◌≡◌, ℕ, zero, suc, ◌==◌, ◌||◌, Bool, true, false, List, [], None, if◌then◌else◌}
+use Rattle.std.specs.Prelude.{◌≡◌, ℕ, zero, suc, ◌==◌, ◌&&◌, ◌||◌, Bool, true, false, List, [], ◌∷◌, None, if◌then◌else◌}
 use Rattle.dine_token.specs.Log.{is_dirty}
 use Rattle.dine_graph.specs.Plan.{SeenPlan}
 use Rattle.dine_rules.specs.declared.events.EventKind.TheVariants as event
 use Rattle.dine_rules.specs.Holdings.{fork_at, hand_at, token_at}
 use Rattle.dine_rules.specs.Letters.{forks_in, requests_in}
 use Rattle.dine_rules.specs.Links.{queue_to}
-use Rattle.dine_rules.specs.Local.{neighbour_at, traffic_at}
+use Rattle.dine_rules.specs.Local.{LocalState, neighbour_at, traffic_at}
 use Rattle.dine_rules.specs.World.{state_of}
+use Rattle.dine_site_core.specs.CoreWants.{can_put_off_by_lists}
 use Rattle.dine_site_core.specs.NextEvent.{next_event}
 use Rattle.dine_waking.specs.Runs.{ByActing, ByHearing, Doing, GoesOn, Run, RunStep, ThreadStep, has_yet_to_ring, number_there, thread_of}
 
--- a thread that is at this finds no ring if it checks this bell now: it goes on, and the bell has none
-abbrev pub finds_no_ring : Doing → List ℕ → Bool
-finds_no_ring GoesOn [] = true
-finds_no_ring doing bell = false
+-- the letters of these rings can be put off until the next meal of the site, in this state
+abbrev pub can_all_be_put_off : SeenPlan → ℕ → LocalState → List ℕ → Bool
+can_all_be_put_off plan s state [] = true
+can_all_be_put_off plan s state (i ∷ rings) = can_put_off_by_lists plan s state i && can_all_be_put_off plan s state rings
 
--- The site has checked its bell: at some moment since its own last step it found no ring, or it finds none now.
+-- a thread that is at this finds no ring if it checks this bell now: it goes on, and the bell has none but those whose
+-- letters can be put off
+abbrev pub finds_no_ring : SeenPlan → ℕ → LocalState → Doing → List ℕ → Bool
+finds_no_ring plan s state GoesOn bell = can_all_be_put_off plan s state bell
+finds_no_ring plan s state doing bell = false
+
+-- The site has checked its bell: at some moment since its own last step it found no ring but those whose letters
+-- can be put off, or it finds none now.
 -- `checked` says of each site whether it had before. Rings may have come since.
-abbrev pub has_checked : Run → (ℕ → Bool) → ℕ → Bool
-has_checked run checked s = checked s || finds_no_ring (thread_of run s).doing (thread_of run s).bell
+abbrev pub has_checked : SeenPlan → Run → (ℕ → Bool) → ℕ → Bool
+has_checked plan run checked s = checked s || finds_no_ring plan s (state_of run.world s) (thread_of run s).doing (thread_of run s).bell
 
 -- which sites have checked when site s has done a step: s has yet to check again, and any other site has if it had
-abbrev pub checked_after : Run → ℕ → (ℕ → Bool) → ℕ → Bool
-checked_after run s checked t = if t == s then false else has_checked run checked t
+abbrev pub checked_after : SeenPlan → Run → ℕ → (ℕ → Bool) → ℕ → Bool
+checked_after plan run s checked t = if t == s then false else has_checked plan run checked t
 
 -- The step is in the manner of its site. A polite site begins a meal only if it has checked its bell. Between the check
 -- and the meal it does no step, but rings may come. An eager site hears a ring only if it can do nothing without a
 -- letter. Both do their other steps as any site does.
 abbrev pub IsInManner : (plan : SeenPlan) (s : ℕ) (checked : ℕ → Bool) (old new : Run) → ThreadStep plan s old new → Bool → Type 0
-IsInManner plan s checked old new (ByActing a) true = a.kind ≡ event.Begin → has_checked old checked s ≡ true
+IsInManner plan s checked old new (ByActing a) true = a.kind ≡ event.Begin → has_checked plan old checked s ≡ true
 IsInManner plan s checked old new (ByHearing h) false = next_event plan s (state_of old.world s) ≡ None
 IsInManner plan s checked old new step polite = Unit {0}
 
@@ -44,7 +52,7 @@ pub record MannerStep (plan : SeenPlan) (is_polite checked : ℕ → Bool) (old 
 abbrev pub LeadsInManner : SeenPlan → (ℕ → Bool) → ℕ → (ℕ → Bool) → Run → (ℕ → Bool) → Run → Type 0
 LeadsInManner plan is_polite zero checked old checked_then new = (checked ≡ checked_then) × (old ≡ new)
 LeadsInManner plan is_polite (suc n) checked old checked_then new = (next : Run) × (one : MannerStep plan is_polite checked old next)
-    × LeadsInManner plan is_polite n (checked_after old one.step.site checked) next checked_then new
+    × LeadsInManner plan is_polite n (checked_after plan old one.step.site checked) next checked_then new
 
 -- the neighbour at place i asks the site for the fork: its Request is in the link
 abbrev pub IsAsked : SeenPlan → Run → ℕ → ℕ → Type 0

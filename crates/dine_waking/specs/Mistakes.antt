@@ -29,7 +29,7 @@ pub record SleepsOverLastFork (plan : SeenPlan) (s : ℕ) (old new : Run) : Type
   pub world : new.world ≡ old.world
   pub threads : new.threads ≡ slice_set old.threads s (at_work (Sleeps (with_one_fork_more (wants_by_lists plan s (state_of old.world s)))) [])
 
--- The site falls asleep, as in `FallsAsleep`. The mistake: its bell may have rings left, and keeps them.
+-- The site falls asleep, as in `FallsAsleep`. The mistake: its bell may have any rings left, and keeps them.
 pub record SleepsOverRings (plan : SeenPlan) (s : ℕ) (old new : Run) : Type 0 where
   pub goes_on : (thread_of old s).doing ≡ GoesOn
   pub idle : next_event plan s (state_of old.world s) ≡ None

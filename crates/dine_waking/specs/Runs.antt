@@ -1,6 +1,6 @@
 -- A run on threads, as far as letters and bells go: the world of its sites, and what the thread of each site is at. The
 -- thread of any site may do the next step.
-use Rattle.std.specs.Prelude.{◌≡◌, ◌⊎◌, ℕ, zero, suc, ◌<◌, ◌==◌, ◌||◌, Bool, true, false, List, [], ◌∷◌, ◌++◌, replicate, slice_index_or, slice_set, Option, Some, None, if◌then◌else◌}
+use Rattle.std.specs.Prelude.{◌≡◌, ◌⊎◌, ℕ, zero, suc, ◌<◌, ◌≤◌, ◌==◌, ◌||◌, Bool, true, false, List, [], ◌∷◌, ◌++◌, count_by, replicate, slice_index_or, slice_set, Option, Some, None, if◌then◌else◌}
 use Rattle.dine_graph.specs.Plan.{SeenPlan, site_count}
 use Rattle.dine_rules.specs.declared.events.EventKind.{EventKind}
 use Rattle.dine_rules.specs.declared.events.EventKind.TheVariants as event
@@ -9,7 +9,7 @@ use Rattle.dine_rules.specs.declared.letters.Kind4.TheVariants as kind
 use Rattle.dine_rules.specs.Local.{edge_at, neighbour_at}
 use Rattle.dine_rules.specs.Wants.{SeenWants, is_wanted, still_wanted}
 use Rattle.dine_rules.specs.World.{IsComplete, WorldState, place_of, start, state_of, world_after}
-use Rattle.dine_site_core.specs.CoreWants.{wants_by_lists}
+use Rattle.dine_site_core.specs.CoreWants.{can_put_off_by_lists, wants_by_lists}
 use Rattle.dine_site_core.specs.NextEvent.{next_event}
 use Rattle.dine_site_core.specs.Standing.{has_finished}
 
@@ -29,8 +29,8 @@ pub data Doing : Type 0 where
   Sleeps : SeenWants → Doing
   IsToBeWoken : ℕ → Doing
 
--- The thread of a site: what it is at, and the rings of its bell that it has not heard, in order. A ring is the number
--- of the place for which it was rung.
+-- The thread of a site: what it is at, and the rings of its bell for whose letters it has not gone, in order. A ring is
+-- the number of the place for which it was rung. A ring whose letter is put off counts among them.
 pub record Thread : Type 0 where
   pub doing : Doing
   pub bell : List ℕ
@@ -121,15 +121,21 @@ pub record WakesThread (plan : SeenPlan) (s : ℕ) (old new : Run) : Type 0 wher
   pub threads : new.threads ≡ slice_set (slice_set old.threads s (record { doing = GoesOn; bell = (thread_of old s).bell }))
       (neighbour_at plan s i) (record { doing = GoesOn; bell = (thread_of old (neighbour_at plan s i)).bell })
 
--- The site hears the first ring of its bell.
+-- how many of these rings are for place i
+abbrev pub rings_for : ℕ → List ℕ → ℕ
+rings_for i = count_by (λ k. k == i)
+
+-- The site hears a ring of its bell: any one that is the first for its place.
 pub record HearsRing (plan : SeenPlan) (s : ℕ) (old new : Run) : Type 0 where
   pub goes_on : (thread_of old s).doing ≡ GoesOn
   pub turn : takes_letters (next_event plan s (state_of old.world s)) ≡ true
   pub i : ℕ
+  pub front : List ℕ
   pub rest : List ℕ
-  pub bell : (thread_of old s).bell ≡ i ∷ rest
+  pub bell : (thread_of old s).bell ≡ front ++ i ∷ rest
+  pub first : rings_for i front ≡ 0
   pub world : new.world ≡ old.world
-  pub threads : new.threads ≡ slice_set old.threads s (record { doing = HasToTake i; bell = rest })
+  pub threads : new.threads ≡ slice_set old.threads s (record { doing = HasToTake i; bell = front ++ rest })
 
 -- The site takes the next letter at the place for which it heard a ring.
 pub record TakesLetter (plan : SeenPlan) (s : ℕ) (old new : Run) : Type 0 where
@@ -138,14 +144,16 @@ pub record TakesLetter (plan : SeenPlan) (s : ℕ) (old new : Run) : Type 0 wher
   pub world : world_after plan old.world (record { site = s; kind = event.Take i }) ≡ Some new.world
   pub threads : new.threads ≡ slice_set old.threads s (record { doing = GoesOn; bell = (thread_of old s).bell })
 
--- The site falls asleep: it can do nothing without a letter, it has not finished, and no ring is left to hear.
+-- The site falls asleep: it can do nothing without a letter, and it has not finished. Each ring that is left is the
+-- only one for its place, and the letter there can be put off until the next meal.
 pub record FallsAsleep (plan : SeenPlan) (s : ℕ) (old new : Run) : Type 0 where
   pub goes_on : (thread_of old s).doing ≡ GoesOn
   pub idle : next_event plan s (state_of old.world s) ≡ None
   pub unfinished : has_finished plan s (state_of old.world s) ≡ false
-  pub silent : (thread_of old s).bell ≡ []
+  pub put_off : (i : ℕ) → 0 < rings_for i (thread_of old s).bell → can_put_off_by_lists plan s (state_of old.world s) i ≡ true
+  pub once : (i : ℕ) → rings_for i (thread_of old s).bell ≤ 1
   pub world : new.world ≡ old.world
-  pub threads : new.threads ≡ slice_set old.threads s (record { doing = Sleeps (wants_by_lists plan s (state_of old.world s)); bell = [] })
+  pub threads : new.threads ≡ slice_set old.threads s (record { doing = Sleeps (wants_by_lists plan s (state_of old.world s)); bell = (thread_of old s).bell })
 
 -- one step of the thread of a site
 pub data ThreadStep (plan : SeenPlan) (s : ℕ) (old new : Run) : Type 0 where

@@ -22,13 +22,23 @@ ghost use Rattle.dine_waking.specs.Sleeping.{AllSleepWell, SleepsWell};
 
 mod code;
 mod manners;
+mod open_doors;
+mod patience;
 
-pub use code::{bells_note_rings_as_runs_do, sites_take_turns_as_runs_do};
+pub use code::{bells_note_rings_as_runs_do, sites_take_turns_as_runs_do, turns_are_steps_of_runs};
 pub use manners::{
     a_polite_site_may_begin_one_meal, a_ring_for_a_request_asks, nobody_asks_in_vain,
     polite_sites_begin_at_most_one_meal, polite_sites_give_after_at_most_one_meal,
     polite_sites_overtake_at_most_once, runs_in_manners_go_on_to_their_end,
     unheard_neighbours_wait_for_all_meals, waiters_wait_for_one_meal_of_each_polite_neighbour,
+};
+pub use open_doors::{
+    called_sites_are_rung_for, closed_doors_end_the_run, worlds_at_rest_have_served,
+};
+pub use patience::{
+    a_patient_site_may_begin_as_many_meals_as_its_patience, patient_sites_begin_few_meals,
+    patient_sites_give_after_few_meals, patient_sites_overtake_few_times,
+    polite_sites_have_a_patience_of_one, waiters_wait_for_few_meals_of_each_patient_neighbour,
 };
 
 /// Nobody sleeps for ever. Take a world that events reach from the start. If each of its sites has finished, or can do

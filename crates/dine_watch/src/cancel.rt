@@ -1,12 +1,13 @@
 //! Jobs that can be cancelled.
 ghost use Rattle.std.specs.Prelude.{◌≡◌, ◌⊎◌, false};
+ghost use Rattle.dine_watch.specs.Stops.{stopped_words};
 
 use dine_jobs::{Job, Table};
 use std::alloc::{AllocError, Global};
 use std::error::Error;
 use std::fmt;
-use std::sync::Arc;
 use std::sync::atomic::{AtomicBool, Ordering};
+use std::sync::{Arc, Wait};
 
 /// A flag that any thread may set, and that jobs look at. It is never cleared. That a share sees what another one set
 /// is tested: of an atomic no contract says what is in it.
@@ -84,6 +85,10 @@ impl<T: Drop, J: Job<T>> Job<T> for Cancellable<J> {
     // Where the job inside expects to run.
     ghost expects = { λ cancellable plan site. J.expects cancellable.job plan site };
 
+    fn is_called<R: Wait>(&self, rt: &R) -> bool {
+        self.job.is_called(rt)
+    }
+
     fn run(&mut self, table: &Table<'_, T>) -> Result<(), Stopped<J::Fault>> {
         if self.cancel.is_set() {
             return Err(Stopped::Cancelled);
@@ -97,10 +102,12 @@ impl<T: Drop, J: Job<T>> Job<T> for Cancellable<J> {
 
 /// `cancelled`, or the words of the fault.
 impl<F: fmt::Display + Drop> fmt::Display for Stopped<F> {
+    ghost output = { λ stopped. stopped_words F.output stopped };
+
     fn fmt<W: fmt::Write>(&self, f: &mut fmt::Formatter<W>) -> fmt::Result {
         match self {
             Stopped::Cancelled => f.write_str("cancelled"),
-            Stopped::Failed(fault) => write!(f, "{fault}"),
+            Stopped::Failed(fault) => fault.fmt(f),
         }
     }
 }

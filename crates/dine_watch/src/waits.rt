@@ -1,10 +1,12 @@
 //! A watch that keeps how long its site waited.
-ghost use Rattle.std.specs.Prelude.{◌≡◌, ◌+◌, ◌-◌, ◌^◌, max, min};
+ghost use Rattle.std.specs.Prelude.{◌≡◌, ◌+◌, ◌-◌, ◌^◌, IfErr, IfOk, max, min};
+ghost use Rattle.std.specs.Duration.{as_nanos};
 
 use crate::watch::Watch;
 use dine_graph::SiteId;
+use std::io;
 use std::rt::Clock;
-use std::time::Instant;
+use std::time::{Duration, Instant};
 
 /// How often a site waited for its forks, how long all these waits took together, and the longest of them, both in
 /// nanoseconds.
@@ -26,6 +28,27 @@ impl Waits {
         self.sum = self.sum.saturating_add(nanos);
         self.longest = self.longest.max(nanos);
     }
+
+    // Adds a wait of this time. If the clock failed, it is left out.
+    fn add_timed(&mut self, wait: io::Result<Duration>)
+        ensures failed { IfErr wait (λ _. self.new ≡ self.old) }
+        ensures count { IfOk wait (λ _. self.new.count ≡ min (self.old.count + 1) (2 ^ 64 - 1)) }
+        ensures sum { IfOk wait (λ took. self.new.sum
+            ≡ min (self.old.sum + min (as_nanos took) (2 ^ 64 - 1)) (2 ^ 64 - 1)) }
+        ensures longest { IfOk wait (λ took. self.new.longest
+            ≡ max self.old.longest (min (as_nanos took) (2 ^ 64 - 1))) }
+    {
+        if let Ok(took) = wait {
+            self.add(nanos_of(took));
+        }
+    }
+}
+
+// How many nanoseconds this is, at most the largest `u64`.
+fn nanos_of(took: Duration) -> u64
+    ensures { result ≡ min (as_nanos took) (2 ^ 64 - 1) }
+{
+    u64::try_from(took.as_nanos()).unwrap_or(u64::MAX)
 }
 
 /// Keeps the waits of its site by a clock. A wait is from when the site grew hungry, which for its first job is before
@@ -65,9 +88,6 @@ impl<R: Clock + Drop + Send> Watch for WaitClock<R> {
             return;
         };
         self.hungry_since = None;
-        if let Ok(wait) = since.elapsed(&self.clock) {
-            self.waits
-                .add(u64::try_from(wait.as_nanos()).unwrap_or(u64::MAX));
-        }
+        self.waits.add_timed(since.elapsed(&self.clock));
     }
 }

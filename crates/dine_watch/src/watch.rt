@@ -1,8 +1,10 @@
 //! Jobs that are watched while they run.
-ghost use Rattle.std.specs.Prelude.{◌≡◌};
+ghost use Rattle.std.specs.Prelude.{◌≡◌, ◌<◌, ◌≤◌, false};
+ghost use Rattle.dine_graph.specs.Plan.{job_count, resigns, site_count};
 
 use dine_graph::{Plan, SiteId};
 use dine_jobs::{Job, Table};
+use std::sync::Wait;
 
 /// Watches one site: it is told when the site grows hungry for a job, begins it and ends it. Each method does nothing
 /// if it is left out. A value of this type moves into the thread of its site, and comes back with the job.
@@ -50,7 +52,11 @@ impl<J: Drop, W: Watch> Watched<J, W> {
 }
 
 // Returns the number of the last job of a site, and whether the site resigns.
-fn jobs_at(plan: &Plan, site: SiteId) -> (u32, bool) {
+fn jobs_at(plan: &Plan, site: SiteId) -> (u32, bool)
+    ensures there { site.0 < site_count plan.now
+        → result ≡ (job_count plan.now site.0, resigns plan.now site.0) }
+    ensures not_there { site_count plan.now ≤ site.0 → result ≡ (0, false) }
+{
     if site.0 >= plan.sites() {
         return (0, false);
     }
@@ -65,6 +71,10 @@ impl<T: Drop, J: Job<T>, W: Watch> Job<T> for Watched<J, W> {
 
     // Where the job inside expects to run.
     ghost expects = { λ watched plan site. J.expects watched.job plan site };
+
+    fn is_called<R: Wait>(&self, rt: &R) -> bool {
+        self.job.is_called(rt)
+    }
 
     fn run(&mut self, table: &Table<'_, T>) -> Result<(), J::Fault> {
         let (site, k) = (table.site(), table.k());

@@ -1,21 +1,21 @@
 -- A fork that is carried on: it is a fork, a chained one is carried on, and its bytes tell which one it is.
 use Rattle.std.proofs.lemmas.Grind.{common_steps}
-use Rattle.std.proofs.Common.{◌≡◌, ◌⊎◌, ℕ, zero, suc, ◌+◌, ◌-◌, ◌<◌, ◌≤◌, ◌*◌, ◌^◌, true, List, [], ◌∷◌, ◌++◌, refl, sym, ◌∙◌, ap, subst, inl, inr, arith}
+use Rattle.std.proofs.Common.{◌≡◌, ◌⊎◌, ℕ, zero, suc, ◌+◌, ◌-◌, ◌<◌, ◌≤◌, ◌^◌, true, List, [], ◌∷◌, ◌++◌, refl, sym, ◌∙◌, ap, subst, inl, inr, arith}
 use Rattle.dine_token.specs.declared.log_entry.Entry.{Entry}
 use Rattle.dine_token.specs.declared.log_entry.Entry.TheVariants.{Move}
-use Rattle.dine_token.specs.Fork.{SeenFork, IsEnd, IsFork, after_meal, location, other_end}
+use Rattle.dine_token.specs.Fork.{SeenFork, IsEnd, IsFork, location, other_end}
 use Rattle.dine_token.specs.Lawful.{IsLawful, due_at}
-use Rattle.dine_token.specs.Log.{is_dirty, location_of, meals_of, moves_of}
+use Rattle.dine_token.specs.Log.{is_dirty, meals_of}
 use Rattle.dine_token.specs.Values.{IsAct}
 use Rattle.dine_token.proofs.Forks.{IsEnd-location, IsFork-after_meal, IsFork-after_move, moves-fork}
 use Rattle.dine_token.proofs.Lawfulness.{IsLawful-none, due_at-higher, due_at-lower}
 use Rattle.dine_token.proofs.Logs.{location_of-push_move, meals_of-push_move}
-use Rattle.dine_graph.specs.Plan.{SeenPlan, IsPlan, act_of, edge_count, hi_of, job_count, lo_of, site_count, value_of}
+use Rattle.dine_graph.specs.Plan.{SeenPlan, IsPlan, act_of, edge_count, hi_of, job_count, lo_of}
 use Rattle.dine_rules.specs.declared.letters.Letter.TheVariants as letter
 use Rattle.dine_rules.specs.Holdings.{meals_from}
 use Rattle.dine_rules.specs.Steps.{fork_with, opened_fork}
 use Rattle.dine_rules.specs.Values.{after_meals, value_to}
-use Rattle.dine_rules.proofs.one_place.Hands.{with_meals, location_of-with_meals, meals_of-with_meals}
+use Rattle.dine_rules.proofs.one_place.Hands.{with_meals, meals_of-with_meals}
 use Rattle.dine_wire.specs.Arrivals.{IsOfPlan, MayCarryOn, carried_on, eaten_on, meals_here}
 use Rattle.dine_wire.specs.Carried.{IsCarriedOn, letter_bytes}
 use Rattle.dine_wire.specs.Notes.{IsInBytes, bytes_of, fork_note}

@@ -1,7 +1,6 @@
 -- Taking by bytes, letter by letter; and which fork is kept.
-use Rattle.std.proofs.Common.{◌≡◌, ◌⊎◌, ℕ, zero, suc, ◌+◌, ◌<◌, ◌==◌, Bool, true, false, cond, List, [], ◌∷◌, ◌++◌, append-nil, length, map, slice_get, Option, Some, None, refl, sym, ◌∙◌, ap, subst, inl, inr, arith}
-use Rattle.std.proofs.lemmas.Bool.{cases_Bool, cond-false, cond-true}
-use Rattle.std.proofs.lemmas.List.{length-append, map-append}
+use Rattle.std.proofs.Common.{◌≡◌, ℕ, zero, suc, ◌+◌, ◌==◌, Bool, true, false, cond, List, [], ◌∷◌, ◌++◌, length, slice_get, Some, None, refl, sym, ◌∙◌, ap, subst, inl, inr, arith}
+use Rattle.std.proofs.lemmas.List.{map-append}
 use Rattle.dine_token.specs.Fork.{SeenFork}
 use Rattle.dine_graph.specs.Plan.{SeenPlan, lo_of}
 use Rattle.dine_rules.specs.declared.letters.Letter.{Letter}
@@ -9,10 +8,10 @@ use Rattle.dine_rules.specs.declared.letters.Letter.TheVariants as letter
 use Rattle.dine_rules.specs.Letters.{forks_among, forks_in}
 use Rattle.dine_rules.specs.Local.{Traffic}
 use Rattle.dine_rules.specs.Steps.{opened_fork}
-use Rattle.dine_rules.proofs.lists.Counting.{slice_get-before, slice_get-push}
+use Rattle.dine_rules.proofs.lists.Counting.{slice_get-push}
 use Rattle.dine_rules.proofs.lists.Forks.{forks_among-append, length-forks_among}
 use Rattle.dine_rules.proofs.one_place.Values.{no_more_forks}
-use Rattle.dine_wire.specs.Carried.{ArrivesWith, GoOnFromKept, GoesOn, IsOfKept, bytes_of_each, fork_for_next, kept_forks, letter_bytes}
+use Rattle.dine_wire.specs.Carried.{GoOnFromKept, GoesOn, IsOfKept, bytes_of_each, fork_for_next, kept_forks, letter_bytes}
 
 module _ (plan : SeenPlan) (s edge : ℕ) where
   -- what is kept grows behind

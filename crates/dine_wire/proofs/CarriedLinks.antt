@@ -1,18 +1,17 @@
 -- The two ends of an edge, if each takes by bytes what the other put: each Fork that an end took is the one that the
 -- other put, one after the other, as the fork goes there and back.
-use Rattle.std.proofs.Common.{◌≡◌, ◌≢◌, ◌⊎◌, ℕ, zero, suc, ◌+◌, ◌<◌, ◌≤◌, ◌^◌, ◌==◌, cond, true, false, Bool, List, [], ◌∷◌, ◌++◌, length, slice_get, Option, Some, None, refl, sym, ◌∙◌, ap, subst, inl, inr, arith}
-use Rattle.std.proofs.lemmas.Bool.{cases_Bool, cond-true, cond-false, eq-eqb, eqb-true, ne_eqb, true≢false}
+use Rattle.std.proofs.Common.{◌≡◌, ◌⊎◌, ℕ, zero, suc, ◌+◌, ◌<◌, ◌≤◌, ◌^◌, ◌==◌, cond, true, false, List, [], ◌∷◌, ◌++◌, length, slice_get, Option, Some, refl, sym, ◌∙◌, ap, subst, inl, inr, arith}
+use Rattle.std.proofs.lemmas.Bool.{cond-true, cond-false, eq-eqb, ne_eqb}
 use Rattle.std.proofs.lemmas.Option.{same_Some}
 use mathlib.Core.List.{IsPrefix}
 use Rattle.dine_token.specs.declared.log_entry.Entry.{Entry}
 use Rattle.dine_token.specs.declared.log_entry.Entry.TheVariants.{Move}
 use Rattle.dine_token.specs.Fork.{SeenFork, IsFork, location, other_end}
-use Rattle.dine_token.specs.Log.{is_dirty, location_of, meals_of}
+use Rattle.dine_token.specs.Log.{is_dirty, meals_of}
 use Rattle.dine_token.specs.Lawful.{IsLawful}
 use Rattle.dine_graph.specs.Plan.{SeenPlan, IsPlan, edge_count, hi_of, lo_of, other_of}
 use Rattle.dine_rules.specs.declared.letters.Letter.{Letter}
 use Rattle.dine_rules.specs.declared.letters.Letter.TheVariants as letter
-use Rattle.dine_rules.specs.Breach.{is_fork_of}
 use Rattle.dine_rules.specs.Holdings.{meals_from}
 use Rattle.dine_rules.specs.JoinedEnds.{AccountsForFork, AreLinked, next_between}
 use Rattle.dine_rules.specs.Letters.{forks_among, forks_in}
@@ -25,7 +24,7 @@ use Rattle.dine_rules.proofs.one_place.Owned.{own_is}
 use Rattle.dine_wire.specs.Arrivals.{IsOfPlan, meals_here}
 use Rattle.dine_wire.specs.Carried.{GoesOn, IsCarriedOn, IsOfKept, TakesByBytes, fork_for_next, kept_forks, letter_bytes}
 use Rattle.dine_wire.proofs.CarriedForks.{IsFork-carried_on, IsFork-opened, chained_is_carried, location-carried_on, of_plan, same_bytes}
-use Rattle.dine_wire.proofs.CarriedLists.{HasForkLike, fork_like, same_front}
+use Rattle.dine_wire.proofs.CarriedLists.{fork_like, same_front}
 
 -- a Fork among the letters is one of them
 at_letter : (letters : List Letter) (k : ℕ) (fork : SeenFork) → slice_get (forks_among letters) k ≡ Some fork → (j : ℕ) × (slice_get letters j ≡ Some (letter.Fork fork))

@@ -1,6 +1,6 @@
 -- Lists of letters with the same bytes: they have their Forks at the same places, and they are the same if their Forks
 -- are.
-use Rattle.std.proofs.Common.{◌≡◌, ◌≢◌, ℕ, zero, suc, List, [], ◌∷◌, ◌++◌, get_or, slice_get, Some, refl, sym, ◌∙◌, ap, subst, arith}
+use Rattle.std.proofs.Common.{◌≡◌, ℕ, zero, suc, List, [], ◌∷◌, ◌++◌, get_or, slice_get, Some, refl, sym, ◌∙◌, ap, subst, arith}
 use mathlib.Core.List.{IsPrefix}
 use Rattle.dine_token.specs.Fork.{SeenFork}
 use Rattle.dine_rules.specs.declared.letters.Letter.{Letter}

@@ -1,13 +1,13 @@
 -- Two sites that keep their streams, in two processes: what each took by bytes is what the other put, and the next
 -- letter goes on from the fork that is kept.
-use Rattle.std.proofs.Common.{◌≡◌, ◌⊎◌, ℕ, ◌<◌, ◌+◌, List, [], ◌∷◌, ◌++◌, length, slice_get, Option, Some, None, refl, sym, ◌∙◌, ap, subst, inl, inr, arith}
-use Rattle.dine_graph.specs.Plan.{SeenPlan, IsPlan, edge_count, edges_of, hi_of, lo_of, site_count}
+use Rattle.std.proofs.Common.{◌≡◌, ◌⊎◌, ℕ, ◌<◌, length, Some, refl, sym, ◌∙◌, ap, subst, inl, inr, arith}
+use Rattle.dine_graph.specs.Plan.{SeenPlan, IsPlan, edge_count, edges_of, hi_of, lo_of}
 use Rattle.dine_rules.specs.declared.letters.Letter.{Letter}
 use Rattle.dine_rules.specs.JoinedEnds.{AccountsForFork, AreEndsOfEdge, AreLinked, next_between, traffic_across}
 use Rattle.dine_rules.specs.Local.{LocalState, Traffic, edge_at, neighbour_at, traffic_at}
 use Rattle.dine_rules.specs.Streams.{AreRequestsOf, KeepsStreams, KeepsStreamsAt}
 use Rattle.dine_rules.specs.World.{LinksAreOrdered, WorldState, place_of, state_of}
-use Rattle.dine_rules.proofs.one_place.Placed.{IsPlaced, placed}
+use Rattle.dine_rules.proofs.one_place.Placed.{placed}
 use Rattle.dine_rules.proofs.two_ends.JoinedEnds.{accounts_for_fork}
 use Rattle.dine_rules.proofs.two_ends.TwoEnds.{ends_at}
 use Rattle.dine_rules.proofs.links.Across.{across, place_of-edge_at}

@@ -8,8 +8,12 @@ use Rattle.dine_rules.specs.declared.letters.Letter.{Letter}
 use Rattle.dine_rules.specs.declared.letters.Letter.TheVariants as letter
 use Rattle.dine_rules.specs.Holdings.{meals_from}
 use Rattle.dine_rules.specs.Values.{after_meals}
+use Rattle.dine_wire.specs.Notes.{fork_note}
+use Rattle.dine_wire.specs.declared.note.ForkNote.{ForkNote}
 use Rattle.dine_wire.specs.declared.note.Told.{Told}
 use Rattle.dine_wire.specs.declared.note.Told.TheVariants.{Fork, Request, Done, Close}
+use Rattle.dine_wire.specs.declared.wire_fault.WireFault.{WireFault}
+use Rattle.dine_wire.specs.declared.wire_fault.WireFault.TheVariants as fault
 
 -- the number of meals in the log of the end where the fork is
 abbrev pub meals_here : SeenFork → ℕ
@@ -38,6 +42,21 @@ pub record MayCarryOn (fork : SeenFork) (n : ℕ) : Type 0 where
   pub used : (is_dirty fork.log ≡ true) ⊎ (1 ≤ n)
   pub within : meals_here fork + n ≤ due_at fork.ends fork.due (location fork)
   pub hungry : meals_of (other_end fork (location fork)) fork.log < due_at fork.ends fork.due (other_end fork (location fork))
+
+-- The fork that was kept goes on to one with this note: it is of the plan, and the other end may have eaten n meals
+-- with it and sent it.
+pub record CarriesOn (plan : SeenPlan) (kept : SeenFork) (note : ForkNote) (n : ℕ) : Type 0 where
+  pub of_plan : IsOfPlan plan kept
+  pub may : MayCarryOn kept n
+  pub note_is : note ≡ fork_note (carried_on plan kept n)
+
+-- Why no fork arrives with this note. `Unlawful`: the fork that was kept does not go on to one with the note. `Memory`:
+-- it does, and an allocation failed. No other fault is one of a fork that was kept.
+abbrev pub DoesNotArrive : SeenPlan → SeenFork → ForkNote → WireFault → Type 0
+DoesNotArrive plan kept note fault.Length = ⊥
+DoesNotArrive plan kept note fault.Kind = ⊥
+DoesNotArrive plan kept note fault.Unlawful = (n : ℕ) → CarriesOn plan kept note n → ⊥
+DoesNotArrive plan kept note fault.Memory = (n : ℕ) × CarriesOn plan kept note n
 
 -- the letter of an edge that a site gets of what is reported, if it kept this fork when it gave it away
 abbrev pub arrived : SeenPlan → SeenFork → ℕ → Told → Letter

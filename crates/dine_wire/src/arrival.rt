@@ -1,5 +1,5 @@
 //! The fork that arrives.
-ghost use Rattle.std.specs.Prelude.{◌≡◌, ◌⊎◌, ℕ, ◌+◌, ◌*◌, ◌<◌, ◌≤◌, ◌^◌, [], IfErr, IfOk, MatchOption, true};
+ghost use Rattle.std.specs.Prelude.{◌≡◌, ℕ, ◌+◌, ◌*◌, ◌<◌, ◌≤◌, ◌^◌, [], IfErr, IfOk, MatchOption, true};
 ghost use Rattle.std.specs.Prelude.{vec_capacity};
 ghost use Rattle.dine_token.specs.Fork.{IsFork, MayEat, after_meal, location};
 ghost use Rattle.dine_token.specs.Log.{moves_of};
@@ -7,9 +7,8 @@ ghost use Rattle.dine_token.specs.Values.{IsAct, value_after_act};
 ghost use Rattle.dine_graph.specs.Plan.{IsPlan, edge_count, job_count, site_count};
 ghost use Rattle.dine_rules.specs.Values.{after_meals};
 ghost use Rattle.dine_rules.specs.Steps.{opened_fork};
-ghost use Rattle.dine_wire.specs.Arrivals.{IsOfPlan, MayCarryOn, carried_on, meals_here};
+ghost use Rattle.dine_wire.specs.Arrivals.{CarriesOn, DoesNotArrive, IsOfPlan, MayCarryOn, carried_on, meals_here};
 ghost use Rattle.dine_wire.specs.Notes.{fork_note};
-ghost use Rattle.dine_wire.specs.declared.wire_fault.WireFault.TheVariants as fault;
 
 use crate::note::{ForkNote, other_end};
 use crate::wire_fault::WireFault;
@@ -52,9 +51,7 @@ pub fn arrive(alloc: Global, plan: &Plan, kept: Fork, note: ForkNote) -> Result<
     ensures arrived { IfOk result
         (λ fork. (n : ℕ) × MayCarryOn kept n × (fork ≡ carried_on plan.now kept n) × (note ≡ fork_note fork)) }
     ensures kept { IfErr result (λ e. e.kept ≡ kept) }
-    ensures refused { IfErr result
-        (λ e. (e.fault ≡ fault.Memory)
-        ⊎ (IsOfPlan plan.now kept → (n : ℕ) → MayCarryOn kept n → note ≡ fork_note (carried_on plan.now kept n) → ⊥)) }
+    ensures refused { IfErr result (λ e. DoesNotArrive plan.now kept note e.fault) }
 {
     let Some(meals) = meals_reported(plan, &kept, note) else {
         let fault = WireFault::Unlawful;
@@ -72,11 +69,8 @@ pub fn arrive(alloc: Global, plan: &Plan, kept: Fork, note: ForkNote) -> Result<
 // The number of meals that the end where the fork is ate with it since, if it can have done what the note reports.
 #[tactic(auto, using(crate::proofs::Arriving::reported))]
 fn meals_reported(plan: &Plan, fork: &Fork, note: ForkNote) -> Option<u32>
-    ensures meals { MatchOption result
-        (IsOfPlan plan.now fork.now → (n : ℕ) → MayCarryOn fork.now n
-        → note ≡ fork_note (carried_on plan.now fork.now n) → ⊥)
-        (λ n. IsOfPlan plan.now fork.now × MayCarryOn fork.now n
-        × (note ≡ fork_note (carried_on plan.now fork.now n))) }
+    ensures meals { MatchOption result ((n : ℕ) → CarriesOn plan.now fork.now note n → ⊥)
+        (λ n. CarriesOn plan.now fork.now note n) }
     ensures fork { IsFork fork.now }
     ensures plan { IsPlan plan.now }
 {

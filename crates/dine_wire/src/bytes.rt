@@ -1,6 +1,7 @@
 //! The bytes of notes.
-ghost use Rattle.std.specs.Prelude.{◌≡◌, ◌≤◌, ◌+◌, ◌++◌, ◌∷◌, [], List, MatchResult, drop, length, take};
+ghost use Rattle.std.specs.Prelude.{◌≡◌, ◌≤◌, ◌+◌, ◌++◌, ◌∷◌, [], IfErr, List, MatchResult, drop, length, take};
 ghost use Rattle.std.specs.Int.{from_le_bytes, to_le_bytes, w32, w64};
+ghost use Rattle.dine_wire.specs.Faults.{IsNoNote};
 ghost use Rattle.dine_wire.specs.Notes.{bytes_of, fork_bytes};
 ghost use Rattle.dine_wire.specs.declared.note.Note.{Note as SeenNote};
 
@@ -54,30 +55,35 @@ fn put_fork(edge: u32, fork: ForkNote, out: &mut [u8]) -> usize
 ///
 /// # Errors
 ///
-/// `Length` if a note of this kind has another number of bytes, and `Kind` if the first byte is no kind.
+/// `Length` if there is no byte, or if a note of the kind that is first has another number of bytes. `Kind` if the
+/// first byte is no kind.
 pub fn read_note(bytes: &[u8]) -> Result<Note, WireFault>
-    ensures { MatchResult result (λ note. bytes.now ≡ bytes_of note)
+    ensures note { MatchResult result (λ note. bytes.now ≡ bytes_of note)
         (λ _. (note : SeenNote) → bytes.now ≡ bytes_of note → ⊥) }
+    ensures fault { IfErr result (IsNoNote bytes.now) }
 {
-    if bytes.len() < 5 {
+    if bytes.len() < 1 {
         return Err(WireFault::Length);
     }
-    let edge = u32_at(bytes, 1);
+    if bytes[0] < 1 || 4 < bytes[0] {
+        return Err(WireFault::Kind);
+    }
     if bytes[0] == 1 {
         if bytes.len() != 21 {
             return Err(WireFault::Length);
         }
+        let edge = u32_at(bytes, 1);
         let told = Told::Fork(fork_at(bytes));
         return Ok(Note { edge, told });
     }
     if bytes.len() != 5 {
         return Err(WireFault::Length);
     }
+    let edge = u32_at(bytes, 1);
     let told = match bytes[0] {
         2 => Told::Request,
         3 => Told::Done,
-        4 => Told::Close,
-        _ => return Err(WireFault::Kind),
+        _ => Told::Close,
     };
     Ok(Note { edge, told })
 }

@@ -20,6 +20,17 @@ ghost use Rattle.dine_wire.specs.Carried.{AreAllJoinedByBytes, AreJoinedByBytes,
 ghost use Rattle.dine_wire.specs.Carried.{bytes_of_each, fork_for_next, kept_forks};
 ghost use Rattle.dine_wire.specs.Notes.{IsInBytes, bytes_of, told_of};
 ghost use Rattle.dine_wire.specs.declared.note.Note.{Note};
+ghost use Rattle.dine_wire.specs.declared.note.Told.TheVariants as told;
+
+/// The bytes of four letters, as every build writes them: they stay as they are, since two processes may be of builds
+/// of different days.
+pub fn letters_have_these_bytes()
+    ensures fork { bytes_of (record { edge = 258; told = told.Fork (record { moves = 3; ate = 260; value = 65541 }) })
+        ≡ 1 ∷ 2 ∷ 1 ∷ 0 ∷ 0 ∷ 3 ∷ 0 ∷ 0 ∷ 0 ∷ 4 ∷ 1 ∷ 0 ∷ 0 ∷ 5 ∷ 0 ∷ 1 ∷ 0 ∷ 0 ∷ 0 ∷ 0 ∷ 0 ∷ [] }
+    ensures request { bytes_of (record { edge = 1; told = told.Request }) ≡ 2 ∷ 1 ∷ 0 ∷ 0 ∷ 0 ∷ [] }
+    ensures done { bytes_of (record { edge = 1; told = told.Done }) ≡ 3 ∷ 1 ∷ 0 ∷ 0 ∷ 0 ∷ [] }
+    ensures close { bytes_of (record { edge = 1; told = told.Close }) ≡ 4 ∷ 1 ∷ 0 ∷ 0 ∷ 0 ∷ [] }
+{}
 
 /// Different notes have different bytes, and no note has more than 21.
 pub fn notes_are_read_as_written()

@@ -145,7 +145,7 @@ module _ {Identity : Type 0} (plan : SeenPlan) (given : List (SeenPort Identity)
       subst (λ (new : LocalState). HasState plan given (record { manner = run.manner; core = core; ports = run.ports; bell = run.bell; journal = journal }) new) did.0
       (has-step plan given run state step core journal has did.1 (ap (λ (new : LocalState). is_eating new.phase) did.0 ∙ has.rests))
 
-  pub putting : JournalsGrow → (kind : EventKind) → step_by false (λ j. None) kind ≡ Some step → event_of step ≡ Some kind → (run : SeenRun Identity) (core : SeenCore) (journal : List EventKind) → journal ≡ run.journal ++ kind ∷ [] → CorePuts i step run.core core l → IsNext (own_event step) run.core → IsRunning plan given run
+  unfoldable pub putting : JournalsGrow → (kind : EventKind) → step_by false (λ j. None) kind ≡ Some step → event_of step ≡ Some kind → (run : SeenRun Identity) (core : SeenCore) (journal : List EventKind) → journal ≡ run.journal ++ kind ∷ [] → CorePuts i step run.core core l → IsNext (own_event step) run.core → IsRunning plan given run
       → IsPutting i l plan given (record { manner = run.manner; core = core; ports = run.ports; bell = run.bell; journal = journal })
   putting grows kind is_step is_event run core journal noted puts next running =
       let did = puts plan running.state running.has.keeps running.has.stands in

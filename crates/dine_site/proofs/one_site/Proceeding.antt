@@ -1,7 +1,8 @@
 -- How a site goes on: by no step, by one step after others, and by one in which nothing of its meals changes.
-use Rattle.std.proofs.Common.{◌≡◌, refl, sym, subst, ◌∙◌}
+use Rattle.std.proofs.Common.{◌≡◌, ℕ, refl, sym, subst, ◌∙◌}
 use Rattle.dine_link.specs.Bells.{SeenBell}
 use Rattle.dine_link.specs.declared.lane.Lane as lanes
+use Rattle.dine_link.specs.declared.thread_log.ThreadLog.{ThreadLog}
 use Rattle.dine_site.specs.declared.diner.Diner as diners
 use Rattle.dine_site.specs.declared.site_loop.running.Running.{Running}
 use Rattle.dine_site.specs.private.Running.{IsReady, IsRunning, Leads, MayProceed, Proceeds, SameMeals, Way, seen_run}
@@ -72,11 +73,11 @@ module _ {Lane Tx Closed Rx Diner : Type 0} (lane : lanes.Ghosts Lane Tx Closed 
       }
 
 -- a site goes on when its bell was checked, or reported a number
-pub proceeds_heard : {Lane Tx Closed Rx Diner : Type 0} (lane : lanes.Ghosts Lane Tx Closed Rx) (diner : diners.Ghosts Diner) (old : Running Lane Diner Tx Closed Rx) (bell : SeenBell) → bell.refused ≡ old.bell.refused → bell.degree ≡ old.bell.degree → bell.identity ≡ old.bell.identity
-    → IsReady diner old → Proceeds lane diner IsRunning old (record old { bell = bell })
-proceeds_heard lane diner old bell unrefused degree identity ready = record {
+pub proceeds_heard : {Lane Tx Closed Rx Diner : Type 0} (lane : lanes.Ghosts Lane Tx Closed Rx) (diner : diners.Ghosts Diner) (old : Running Lane Diner Tx Closed Rx) (bell : SeenBell) (skips : ℕ) (log : ThreadLog) → bell.refused ≡ old.bell.refused → bell.degree ≡ old.bell.degree → bell.identity ≡ old.bell.identity
+    → IsReady diner old → Proceeds lane diner IsRunning old (record old { bell = bell; skips = skips; log = log })
+proceeds_heard lane diner old bell skips log unrefused degree identity ready = record {
   way = λ plan given running. heard_runs plan given (seen_run lane old) bell unrefused running;
-  ready = record { bell = degree ∙ ready.bell; room = ready.room; failed = ready.failed };
+  ready = record { room = ready.room; failed = ready.failed };
   eats = λ first eaten. eaten;
   obeys = λ first obeying. obeying;
   manner = refl;

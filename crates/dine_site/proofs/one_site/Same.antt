@@ -1,8 +1,9 @@
 -- What goes on as it was, where nothing of a site's meals changes.
-use Rattle.std.proofs.Common.{◌≡◌, ℕ, ◌||◌, refl, sym, ap, ap₂, ◌∙◌, arith}
+use Rattle.std.proofs.Common.{◌≡◌, ℕ, ◌||◌, refl, ap, ap₂, ◌∙◌, arith}
 use Rattle.std.specs.Prelude.{nat_lt, vec_len}
 use Rattle.std.specs.Global.{Vec}
 use Rattle.dine_rules.specs.declared.clock.Clock.{Clock}
+use Rattle.dine_link.specs.declared.thread_log.ThreadLog.{ThreadLog}
 use Rattle.dine_site_core.specs.Core.{SeenCore}
 use Rattle.dine_site_core.specs.Places.{with_place}
 use Rattle.dine_site_core.specs.declared.site.places.Place.{Place}
@@ -18,7 +19,6 @@ use Rattle.dine_site.proofs.one_site.Meals.{eaten_same}
 module _ {Lane Tx Closed Rx Diner : Type 0} (diner : diners.Ghosts Diner) (old new : Running Lane Diner Tx Closed Rx) (same : SameMeals old new) where
   pub ready_same : IsReady diner old → IsReady diner new
   ready_same ready = record {
-    bell = same.bell ∙ ready.bell ∙ sym same.count;
     room = omega (arith, ready.room, same.due, same.ate, ap diner.room_left same.diner);
     failed = omega (arith, ready.failed, same.failed, same.ate);
   }
@@ -34,8 +34,8 @@ module _ {Lane Tx Closed Rx Diner : Type 0} (diner : diners.Ghosts Diner) (old n
 
 module _ {Lane Tx Closed Rx Diner : Type 0} (old new : Running Lane Diner Tx Closed Rx) where
   -- where only a place of the core was written, and the journal, and then nothing of the meals changed
-  pub same_but_place : (i : ℕ) (place : Place) (core : SeenCore) (journal : Vec EventKind) (clock : Clock) → core ≡ with_place i place old.core → SameMeals (record old { core = core; journal = journal; clock = clock }) new → SameMeals old new
-  same_but_place i place core journal clock is same = record {
+  pub same_but_place : (i : ℕ) (place : Place) (core : SeenCore) (journal : Vec EventKind) (clock : Clock) (log : ThreadLog) → core ≡ with_place i place old.core → SameMeals (record old { core = core; journal = journal; clock = clock; log = log }) new → SameMeals old new
+  same_but_place i place core journal clock log is same = record {
     manner = same.manner;
     site = same.site ∙ ap (λ (x : SeenCore). x.site) is;
     due = same.due ∙ ap (λ (x : SeenCore). x.due) is;
@@ -69,8 +69,8 @@ same_then was is = record {
 
 module _ {Lane Tx Closed Rx Diner : Type 0} (old : Running Lane Diner Tx Closed Rx) (core : SeenCore) (ports : Vec (Port Lane Tx Closed Rx)) where
   -- where only ports and the journal were written
-  pub same_but_ports : (journal : Vec EventKind) → core ≡ old.core → vec_len ports ≡ vec_len old.ports → SameMeals old (record old { core = core; ports = ports; journal = journal })
-  same_but_ports journal is count = record {
+  pub same_but_ports : (journal : Vec EventKind) (log : ThreadLog) → core ≡ old.core → vec_len ports ≡ vec_len old.ports → SameMeals old (record old { core = core; ports = ports; journal = journal; log = log })
+  same_but_ports journal log is count = record {
     manner = refl;
     site = ap (λ (x : SeenCore). x.site) is;
     due = ap (λ (x : SeenCore). x.due) is;
@@ -87,14 +87,14 @@ module _ {Lane Tx Closed Rx Diner : Type 0} (old : Running Lane Diner Tx Closed 
 
 module _ {Lane Tx Closed Rx Diner : Type 0} (old : Running Lane Diner Tx Closed Rx) (core : SeenCore) (ports : Vec (Port Lane Tx Closed Rx)) where
   -- where a place of the core was written too, the journal and the clock
-  pub same_at_place : (i : ℕ) (place : Place) (journal : Vec EventKind) (clock : Clock) → core ≡ with_place i place old.core → vec_len ports ≡ vec_len old.ports
-      → SameMeals old (record old { core = core; ports = ports; journal = journal; clock = clock })
-  same_at_place i place journal clock is count =
-      same_but_place old _ i place core journal clock is (same_but_ports (record old { core = core; journal = journal; clock = clock }) core ports journal refl count)
+  pub same_at_place : (i : ℕ) (place : Place) (journal : Vec EventKind) (clock : Clock) (log : ThreadLog) → core ≡ with_place i place old.core → vec_len ports ≡ vec_len old.ports
+      → SameMeals old (record old { core = core; ports = ports; journal = journal; clock = clock; log = log })
+  same_at_place i place journal clock log is count =
+      same_but_place old _ i place core journal clock log is (same_but_ports (record old { core = core; journal = journal; clock = clock; log = log }) core ports journal log refl count)
 
 -- where only the phase of the core was written, and the journal
-pub same_but_phase : {Lane Tx Closed Rx Diner : Type 0} (old : Running Lane Diner Tx Closed Rx) (phase : Phase) (core : SeenCore) (journal : Vec EventKind) (clock : Clock) → core ≡ record old.core { phase = phase } → SameMeals old (record old { core = core; journal = journal; clock = clock })
-same_but_phase old phase core journal clock is = record {
+pub same_but_phase : {Lane Tx Closed Rx Diner : Type 0} (old : Running Lane Diner Tx Closed Rx) (phase : Phase) (core : SeenCore) (journal : Vec EventKind) (clock : Clock) (log : ThreadLog) → core ≡ record old.core { phase = phase } → SameMeals old (record old { core = core; journal = journal; clock = clock; log = log })
+same_but_phase old phase core journal clock log is = record {
   manner = refl;
   site = ap (λ (x : SeenCore). x.site) is;
   due = ap (λ (x : SeenCore). x.due) is;

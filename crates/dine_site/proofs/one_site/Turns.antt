@@ -17,7 +17,7 @@ use Rattle.dine_rules.specs.World.{placeless_kinds}
 use Rattle.dine_site_core.specs.NextEvent.{may_by_itself, next_event}
 use Rattle.dine_site_core.specs.Standing.{all_places}
 use Rattle.dine_site.specs.declared.manner.Manner.{Manner}
-use Rattle.dine_site.specs.declared.manner.Manner.TheVariants.{Eager, Polite}
+use Rattle.dine_site.specs.declared.manner.Manner.TheVariants.{Eager, Greedy, Patient, OnCall}
 use Rattle.dine_site.specs.Doings.{AreInTurn, HasActed, IsInTurn, event_of, own_event}
 
 -- what a law says: a journal grows by each event that its site may do
@@ -59,7 +59,9 @@ own_turn manner next (Done i) is = is
 own_turn manner next (Close i) is = is
 own_turn manner next (Break i) is = is
 own_turn Eager next (Take i l) is = is
-own_turn Polite next (Take i l) is = inl is
+own_turn Greedy next (Take i l) is = is
+own_turn (Patient k) next (Take i l) is = inl is
+own_turn (OnCall k) next (Take i l) is = inl is
 
 -- none yet
 pub acted_nothing : (manner : Manner) (plan : SeenPlan) (s : ℕ) (journal : List EventKind) → journal ≡ [] → HasActed manner plan s journal (start_of plan s)

@@ -35,7 +35,7 @@ module _ {Identity : Type 0} (plan : SeenPlan) (given : List (SeenPort Identity)
       omega (arith, putting.within, putting.has.stands.degree, putting.has.places, same)
 
   module _ (i : ℕ) (l : Letter) (putting : IsPutting i l plan given run) (port : SeenPort Identity) (at : slice_get run.ports i ≡ Some port) where
-    pub put_runs : (m : ℕ) → is_close l ≡ false → IsRunning plan given (record { manner = run.manner; core = run.core; ports = set run.ports i (port_after_put m l port); bell = run.bell; journal = run.journal })
+    unfoldable pub put_runs : (m : ℕ) → is_close l ≡ false → IsRunning plan given (record { manner = run.manner; core = run.core; ports = set run.ports i (port_after_put m l port); bell = run.bell; journal = run.journal })
     put_runs m other = record {
       state = with_put i l putting.before;
       has = has-port plan given run (with_put i l putting.before) i port (port_after_put m l port) putting.has at refl refl refl refl;
@@ -59,7 +59,7 @@ module _ {Identity : Type 0} (plan : SeenPlan) (given : List (SeenPort Identity)
         let grown : length (traffic_at (with_put i l putting.before) i).put ≡ length traffic.put + 1 = ap (λ (t : Traffic). length t.put) after_it ∙ length-append traffic.put (l ∷ []) in
         omega (arith, bound, grown, ap (λ (xs : List Letter). length xs) (putting.lists i port at).puts)
 
-  pub close_runs : (m i : ℕ) → IsPutting i letter.Close plan given run → (port : SeenPort Identity) → slice_get run.ports i ≡ Some port
+  unfoldable pub close_runs : (m i : ℕ) → IsPutting i letter.Close plan given run → (port : SeenPort Identity) → slice_get run.ports i ≡ Some port
       → IsRunning plan given (record { manner = run.manner; core = run.core; ports = set run.ports i (port_after_close m port); bell = run.bell; journal = run.journal })
   close_runs m i putting port at = record {
     state = with_put i letter.Close putting.before;
@@ -75,7 +75,7 @@ module _ {Identity : Type 0} (plan : SeenPlan) (given : List (SeenPort Identity)
   pub place_within : (running : IsRunning plan given run) (i : ℕ) → i < length run.core.places → i < length running.state.traffic
   place_within running i h = omega (arith, running.has.stands.degree)
 
-  pub take_runs : JournalsGrow → (m i : ℕ) (l : Letter) (core : SeenCore) (journal : List EventKind) → journal ≡ run.journal ++ event.Take i ∷ [] → i < length run.core.places → CoreSteps (Take i l) run.core core → MayTakeNow run.manner run.core → IsRunning plan given run → (port : SeenPort Identity) → slice_get run.ports i ≡ Some port
+  unfoldable pub take_runs : JournalsGrow → (m i : ℕ) (l : Letter) (core : SeenCore) (journal : List EventKind) → journal ≡ run.journal ++ event.Take i ∷ [] → i < length run.core.places → CoreSteps (Take i l) run.core core → MayTakeNow run.manner run.core → IsRunning plan given run → (port : SeenPort Identity) → slice_get run.ports i ≡ Some port
       → IsRunning plan given (record { manner = run.manner; core = core; ports = set run.ports i (port_after_take m l port); bell = run.bell; journal = journal })
   take_runs grows m i l core journal noted within steps next running port at = record {
     state = with_taken i l running.state;
@@ -116,7 +116,7 @@ module _ {Identity : Type 0} (plan : SeenPlan) (given : List (SeenPort Identity)
   -- ---- no letter goes
 
   -- only the bell was heard
-  pub heard_runs : (bell : SeenBell) → bell.refused ≡ run.bell.refused → IsRunning plan given run → IsRunning plan given (record { manner = run.manner; core = run.core; ports = run.ports; bell = bell; journal = run.journal })
+  unfoldable pub heard_runs : (bell : SeenBell) → bell.refused ≡ run.bell.refused → IsRunning plan given run → IsRunning plan given (record { manner = run.manner; core = run.core; ports = run.ports; bell = bell; journal = run.journal })
   heard_runs bell same running = record {
     state = running.state;
     has = record {
@@ -134,7 +134,7 @@ module _ {Identity : Type 0} (plan : SeenPlan) (given : List (SeenPort Identity)
     did = running.did;
   }
 
-  pub hungry_runs : JournalsGrow → (core : SeenCore) (journal : List EventKind) → journal ≡ run.journal ++ event.Hungry ∷ [] → CoreSteps Hungry run.core core → IsNext (Some event.Hungry) run.core → IsRunning plan given run → IsRunning plan given (record { manner = run.manner; core = core; ports = run.ports; bell = run.bell; journal = journal })
+  unfoldable pub hungry_runs : JournalsGrow → (core : SeenCore) (journal : List EventKind) → journal ≡ run.journal ++ event.Hungry ∷ [] → CoreSteps Hungry run.core core → IsNext (Some event.Hungry) run.core → IsRunning plan given run → IsRunning plan given (record { manner = run.manner; core = core; ports = run.ports; bell = run.bell; journal = journal })
   hungry_runs grows core journal noted steps next running = record {
     state = after plan run.core.site running.state Hungry;
     has = has-step plan given run running.state Hungry core journal running.has (steps plan running.state running.has.keeps running.has.stands) refl;
@@ -144,7 +144,7 @@ module _ {Identity : Type 0} (plan : SeenPlan) (given : List (SeenPort Identity)
         (did_step grows plan given run running event.Hungry Hungry core false (λ j. None) refl refl (next plan running.state running.has.keeps running.has.stands) (steps plan running.state running.has.keeps running.has.stands));
   }
 
-  pub quit_runs : JournalsGrow → (core : SeenCore) (journal : List EventKind) → journal ≡ run.journal ++ event.Quit ∷ [] → CoreSteps Quit run.core core → IsNext (Some event.Quit) run.core → IsRunning plan given run → IsRunning plan given (record { manner = run.manner; core = core; ports = run.ports; bell = run.bell; journal = journal })
+  unfoldable pub quit_runs : JournalsGrow → (core : SeenCore) (journal : List EventKind) → journal ≡ run.journal ++ event.Quit ∷ [] → CoreSteps Quit run.core core → IsNext (Some event.Quit) run.core → IsRunning plan given run → IsRunning plan given (record { manner = run.manner; core = core; ports = run.ports; bell = run.bell; journal = journal })
   quit_runs grows core journal noted steps next running = record {
     state = after plan run.core.site running.state Quit;
     has = has-step plan given run running.state Quit core journal running.has (steps plan running.state running.has.keeps running.has.stands) running.has.rests;
@@ -154,7 +154,7 @@ module _ {Identity : Type 0} (plan : SeenPlan) (given : List (SeenPort Identity)
         (did_step grows plan given run running event.Quit Quit core false (λ j. None) refl refl (next plan running.state running.has.keeps running.has.stands) (steps plan running.state running.has.keeps running.has.stands));
   }
 
-  pub eat_runs : JournalsGrow → (failed : Bool) (eating core : SeenCore) (forks : List SeenFork) (first journal : List EventKind) → first ≡ run.journal ++ event.Begin ∷ [] → journal ≡ first ++ event.End ∷ [] → CoreSteps Begin run.core eating
+  unfoldable pub eat_runs : JournalsGrow → (failed : Bool) (eating core : SeenCore) (forks : List SeenFork) (first journal : List EventKind) → first ≡ run.journal ++ event.Begin ∷ [] → journal ≡ first ++ event.End ∷ [] → CoreSteps Begin run.core eating
       → ForEachState run.core (λ plan state. forks ≡ forks_in_hand plan run.core.site (after plan run.core.site state Begin) (all_places state))
       → ForEachState eating (λ plan state. forks ≡ forks_in_hand plan eating.site state (all_places state) → CoreStep plan state (End failed) eating core)
       → IsNext (Some event.Begin) run.core → IsRunning plan given run → IsRunning plan given (record { manner = run.manner; core = core; ports = run.ports; bell = run.bell; journal = journal })
@@ -179,7 +179,7 @@ module _ {Identity : Type 0} (plan : SeenPlan) (given : List (SeenPort Identity)
 
 -- ---- the start
 
-pub start_runs : {Identity : Type 0} (manner : Manner) (plan : SeenPlan) (core : SeenCore) (ports : List (SeenPort Identity))
+unfoldable pub start_runs : {Identity : Type 0} (manner : Manner) (plan : SeenPlan) (core : SeenCore) (ports : List (SeenPort Identity))
     → ((plan : SeenPlan) (s : ℕ) → IsPlan plan → s < site_count plan → KeepsStreams plan s (start_of plan s))
     → IsFreshFor plan core → length ports ≡ length core.places → All IsFreshPort ports → (bell : SeenBell) → bell.refused ≡ false → (journal : List EventKind) → journal ≡ [] → IsRunning plan ports (record { manner = manner; core = core; ports = ports; bell = bell; journal = journal })
 start_runs {Identity} manner plan core ports starts fresh count unused bell unheard journal none_yet = record {

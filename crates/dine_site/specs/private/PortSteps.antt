@@ -1,8 +1,11 @@
 -- What the steps of a site do to its ports.
-use Rattle.std.specs.Prelude.{◌≡◌, ℕ, ◌+◌, false, List, [], ◌∷◌, ◌++◌, slice_get, slice_set, IfSome}
+use Rattle.std.specs.Prelude.{◌≡◌, ℕ, false, List, [], ◌∷◌, ◌++◌, slice_get, slice_set, IfSome}
 use Rattle.dine_rules.specs.declared.letters.Letter.{Letter}
 use Rattle.dine_rules.specs.declared.letters.Letter.TheVariants.{Close}
 use Rattle.dine_rules.specs.declared.letters.Kind4.{Kind4}
+use Rattle.dine_rules.specs.declared.letters.Kind4.TheVariants as four
+use Rattle.dine_link.specs.declared.deed.Deed.{Deed}
+use Rattle.dine_link.specs.Deeds.{HasRungFor}
 use Rattle.dine_rules.specs.Letters.{kind_of}
 use Rattle.dine_site.specs.declared.port.Sent.{Sent}
 use Rattle.dine_site.specs.declared.port.Sent.TheVariants.{Heard, Refused, Unheard}
@@ -72,3 +75,16 @@ module _ {Identity : Type 0} where
   -- one of the ports changed, in this way
   abbrev pub ChangesAt : ℕ → (SeenPort Identity → SeenPort Identity → Type 0) → List (SeenPort Identity) → List (SeenPort Identity) → Type 0
   ChangesAt i Way olds news = IfSome (slice_get olds i) (λ (old : SeenPort Identity). (new : SeenPort Identity) × Way old new × (news ≡ slice_set olds i new))
+
+-- the log of a thread that sent a letter of this kind at this place: it has the ring, if there was one, and that the
+-- neighbour was woken, if the ring had to wake it
+abbrev pub LogsRing : ℕ → Kind4 → List Deed → List Deed → Sent → Type 0
+LogsRing place kind old new Heard = HasRungFor place kind old new
+LogsRing place kind old new Unheard = new ≡ old
+LogsRing place kind old new (Refused back) = new ≡ old
+
+-- the same for Close
+abbrev pub LogsClose : ℕ → List Deed → List Deed → Closed → Type 0
+LogsClose place old new closed.Heard = HasRungFor place four.Close old new
+LogsClose place old new closed.Unheard = new ≡ old
+LogsClose place old new closed.Refused = new ≡ old

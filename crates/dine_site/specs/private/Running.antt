@@ -1,13 +1,14 @@
 -- A site while it runs: what holds of its core and its link ends between two of its events, before a letter is put,
 -- after its first fault, and at its end; and what stays the same.
-use Rattle.std.specs.Prelude.{◌≡◌, ◌≢◌, ◌⊎◌, ℕ, ◌+◌, ◌<◌, ◌≤◌, ◌++◌, ◌&&◌, ◌||◌, not, nat_lt, Bool, true, false, List, [], ◌∷◌, length, slice_get, Option, Some, None, option_to_list, Result, MatchResult, vec_len, ◌==◌, if◌then◌else◌}
+use Rattle.std.specs.Prelude.{◌≡◌, ◌≢◌, ◌⊎◌, ℕ, zero, suc, ◌+◌, ◌-◌, ◌<◌, ◌≤◌, ◌++◌, ◌&&◌, ◌||◌, not, nat_lt, Bool, true, false, List, [], ◌∷◌, length, slice_get, Option, Some, None, option_to_list, Result, MatchResult, vec_len, ◌==◌, if◌then◌else◌, slice_set, OnOk}
 use Rattle.dine_graph.specs.Plan.{SeenPlan, IsPlan, site_count}
 use Rattle.dine_rules.specs.declared.breach.Breach.{Breach}
 use Rattle.dine_rules.specs.declared.events.EventKind.{EventKind}
+use Rattle.dine_rules.specs.declared.events.EventKind.TheVariants as event
 use Rattle.dine_rules.specs.declared.letters.Letter.{Letter}
-use Rattle.dine_rules.specs.Letters.{has_close}
+use Rattle.dine_rules.specs.Letters.{has_close, kind_of}
 use Rattle.dine_rules.specs.Local.{LocalState, Traffic, is_eating, traffic_at}
-use Rattle.dine_rules.specs.Steps.{with_put}
+use Rattle.dine_rules.specs.Steps.{Take, after, may, with_put}
 use Rattle.dine_rules.specs.Streams.{KeepsStreams}
 use Rattle.dine_site_core.specs.Core.{SeenCore, Refines}
 use Rattle.dine_site_core.specs.NextEvent.{next_event}
@@ -19,10 +20,15 @@ use Rattle.dine_site.specs.declared.site_end.Stray.{Stray}
 use Rattle.dine_site.specs.declared.site_loop.running.Stop.{Stop}
 use Rattle.dine_site.specs.declared.site_loop.running.Running.{Running}
 use Rattle.dine_link.specs.Bells.{SeenBell, after_empty_check}
+use Rattle.dine_link.specs.declared.deed.Deed.{Deed}
+use Rattle.dine_link.specs.declared.deed.Deed.TheVariants.{Did}
+use Rattle.dine_link.specs.declared.wants.Wants.{Wants}
+use Rattle.dine_link.specs.Deeds.{hearing, ringing}
+use Rattle.dine_site.specs.Threads.{HasWorked, MayHaveSlept, Memo, checking, first_that_matters}
 use Rattle.dine_site.specs.Diners.{HasEaten}
 use Rattle.dine_site.specs.declared.manner.Manner.{Manner}
-use Rattle.dine_site.specs.declared.manner.Manner.TheVariants.{Eager, Polite}
-use Rattle.dine_site.specs.Doings.{HasActed, HasDone, MayTakeBefore, empty_checks_of}
+use Rattle.dine_site.specs.declared.manner.Manner.TheVariants.{Eager, Greedy, Patient, OnCall}
+use Rattle.dine_site.specs.Doings.{HasActed, HasDone, MayTakeBefore, begins_from, empty_checks_of, is_checking, is_on_call, skips_after, skips_then}
 use Rattle.dine_site.specs.Ports.{BrokeOffUnheard, HasRung, IsUnrefused, SeenPort, SameLinks, PutsFit, seen_ports}
 use Rattle.dine_rules.specs.Moments.{last_moment}
 use Rattle.dine_site.specs.Times.{IsTimed, none_late}
@@ -120,10 +126,16 @@ IsNext next core = ForEachState core (λ plan state. next_event plan core.site s
 abbrev pub MayTakeNow : Manner → SeenCore → Type 0
 MayTakeNow manner core = ForEachState core (λ plan state. MayTakeBefore manner (next_event plan core.site state))
 
--- the bell once a site of this manner that did this number of events found no ring left: an eager site does not check
-abbrev pub checked_by : Manner → ℕ → SeenBell → SeenBell
-checked_by Eager events bell = bell
-checked_by Polite events bell = after_empty_check events bell
+-- how many meals a site of this manner is to begin without a check, by its journal
+abbrev pub skips_by : Manner → List EventKind → ℕ
+skips_by Eager journal = 0
+skips_by Greedy journal = 0
+skips_by (Patient k) journal = skips_after k 0 (begins_from 0 journal)
+skips_by (OnCall k) journal = skips_after k 0 (begins_from 0 journal)
+
+-- the bell once a site of this manner that did this number of events found no ring left, if it checked
+abbrev pub checked_by : Manner → ℕ → ℕ → SeenBell → SeenBell
+checked_by manner skips events bell = if is_checking manner skips then after_empty_check events bell else bell
 
 -- Close is put at each of the places below i
 abbrev pub ClosedBelow : ℕ → SeenCore → Type 0
@@ -200,10 +212,8 @@ pub record IsObeying (resigns drops has_left : Bool) (first now : List Call) : T
   pub drops_where : drops ≡ (last_failed added && resigns && has_left)
 
 module _ {Lane Tx Closed Rx Diner : Type 0} (diner : diners.Ghosts Diner) where
-  -- The bell has a ringer for each place, the diner has capacity for the calls of all meals to come, and no more meals
-  -- failed than were begun.
+  -- The diner has capacity for the calls of all meals to come, and no more meals failed than were begun.
   pub record IsReady (run : Running Lane Diner Tx Closed Rx) : Type 0 where
-    pub bell : run.bell.degree ≡ vec_len run.ports
     pub room : run.core.due ≤ run.core.ate + diner.room_left run.diner
     pub failed : run.failed ≤ run.core.ate
 
@@ -239,15 +249,16 @@ module _ {Lane Tx Closed Rx Diner : Type 0} (lane : Ghosts Lane Tx Closed Rx) (d
     pub expects : (plan : SeenPlan) (site : ℕ) → diner.expects old.diner plan site → diner.expects new.diner plan site
 
 -- After these first checks, the bell had no ring left just when a site of this manner checks it, by the site's journal;
--- and its clock has as many events as the journal.
-pub record AreChecks (first : List ℕ) (manner : Manner) (found_empty : List ℕ) (events : List (EventKind × ℕ)) (journal : List EventKind) : Type 0 where
+-- its clock has as many events as the journal; and it is to begin `skips` meals without a check.
+pub record AreChecks (first : List ℕ) (manner : Manner) (skips : ℕ) (found_empty : List ℕ) (events : List (EventKind × ℕ)) (journal : List EventKind) : Type 0 where
   pub checks : found_empty ≡ first ++ empty_checks_of manner journal
   pub noted : length events ≡ length journal
+  pub left : skips ≡ skips_by manner journal
 
 module _ {Lane Tx Closed Rx Diner : Type 0} where
   -- after these first checks its bell had no ring left just when its manner says, by its journal
   abbrev pub HasChecked : List ℕ → Running Lane Diner Tx Closed Rx → Type 0
-  HasChecked first run = AreChecks first run.manner run.bell.found_empty run.clock.events run.journal.items
+  HasChecked first run = AreChecks first run.manner run.skips run.bell.found_empty run.clock.events run.journal.items
 
   -- if it was so, it is so still
   abbrev pub ChecksOn : Running Lane Diner Tx Closed Rx → Running Lane Diner Tx Closed Rx → Type 0
@@ -268,3 +279,61 @@ module _ {Lane Tx Closed Rx Diner : Type 0} where
     pub bell : new.bell.degree ≡ old.bell.degree
     pub same_bell : new.bell.identity ≡ old.bell.identity
     pub count : vec_len new.ports ≡ vec_len old.ports
+
+-- ---- what the thread does beside its events
+
+-- The site runs, and its thread did turns, which are all in the log. They left it this memo.
+abbrev pub IsWorking : {Identity : Type 0} → SeenPlan → List (SeenPort Identity) → SeenRun Identity → Memo → List Deed → Type 0
+IsWorking plan given run memo deeds = (running : IsRunning plan given run) × HasWorked run.manner plan run.core.site run.journal running.state memo deeds
+
+-- The core has put the letter at place i, and the link does not have it yet. Once the thread has rung for it, and woken
+-- the neighbour if the ring has to, its turn is done.
+abbrev pub IsToRing : {Identity : Type 0} → ℕ → Letter → SeenPlan → List (SeenPort Identity) → SeenRun Identity → Memo → List Deed → Type 0
+IsToRing i letter plan given run memo deeds = (putting : IsPutting i letter plan given run) × ((woken : Bool) → HasWorked run.manner plan run.core.site run.journal (with_put i letter putting.before) memo (deeds ++ ringing i (kind_of letter) woken))
+
+-- The thread may begin a meal. If a check is due, it has checked its bell since its last turn and found no ring, and
+-- none of the letters that it put off matters. It has counted the meal.
+abbrev pub IsToEat : {Identity : Type 0} → SeenPlan → List (SeenPort Identity) → SeenRun Identity → Memo → List Deed → Type 0
+IsToEat plan given run memo deeds = (running : IsRunning plan given run) × (old : Memo) × (before : List Deed) × HasWorked run.manner plan run.core.site run.journal running.state old before
+    × (is_checking run.manner old.skips ≡ true → first_that_matters plan run.core.site running.state old ≡ None)
+    × (deeds ≡ before ++ checking run.manner old.skips) × (memo ≡ record old { skips = skips_then run.manner old.skips })
+
+-- The thread has heard a ring for place i since its last turn, and may have slept before.
+abbrev pub HasHeardAt : {Identity : Type 0} → ℕ → SeenPlan → List (SeenPort Identity) → SeenRun Identity → Memo → List Deed → Type 0
+HasHeardAt i plan given run memo deeds = (running : IsRunning plan given run) × (before : List Deed) × (slept : Option Wants)
+    × HasWorked run.manner plan run.core.site run.journal running.state memo before × (deeds ≡ before ++ hearing slept i) × MayHaveSlept run.manner plan run.core.site running.state memo slept
+
+-- The thread goes for the letter at place i that it put off: of those that matter now, the first.
+abbrev pub HasRecalled : {Identity : Type 0} → ℕ → SeenPlan → List (SeenPort Identity) → SeenRun Identity → Memo → List Deed → Type 0
+HasRecalled i plan given run memo deeds = (running : IsRunning plan given run) × (old : Memo) × HasWorked run.manner plan run.core.site run.journal running.state old deeds
+    × (first_that_matters plan run.core.site running.state old ≡ Some i) × (memo ≡ record old { put_off = slice_set old.put_off i false })
+
+-- Once the thread has taken a letter at place i that the rules allow, its turn is done.
+abbrev pub IsToTake : {Identity : Type 0} → ℕ → SeenPlan → List (SeenPort Identity) → SeenRun Identity → Memo → List Deed → Type 0
+IsToTake i plan given run memo deeds = (running : IsRunning plan given run) × ((letter : Letter) → may plan run.core.site running.state (Take i letter) ≡ true
+    → HasWorked run.manner plan run.core.site (run.journal ++ event.Take i ∷ []) (after plan run.core.site running.state (Take i letter)) memo (deeds ++ Did (event.Take i) ∷ []))
+
+-- what holds of a site while it runs, with what its thread remembers and the log of its thread
+abbrev pub Stage : Type 0 → Type 1
+Stage Identity = SeenPlan → List (SeenPort Identity) → SeenRun Identity → Memo → List Deed → Type 0
+
+module _ {Lane Tx Closed Rx Diner : Type 0} where
+  -- what the thread remembers beside the state of its site
+  abbrev pub memo_of : Running Lane Diner Tx Closed Rx → Memo
+  memo_of run = record { put_off = run.put_off; skips = run.skips }
+
+-- In each state that the core represents, the site can do nothing without a letter, or it is on call and may only grow
+-- hungry.
+abbrev pub IsIdle : Manner → SeenCore → Type 0
+IsIdle manner core = ForEachState core (λ plan state. (next_event plan core.site state ≡ None) ⊎ ((is_on_call manner ≡ true) × (next_event plan core.site state ≡ Some event.Hungry)))
+
+-- in each state that the core represents, this is the first place whose letter is put off and matters now, if there is
+-- one
+abbrev pub MattersFirst : SeenCore → Memo → Option ℕ → Type 0
+MattersFirst core memo first = ForEachState core (λ plan state. first_that_matters plan core.site state memo ≡ first)
+
+module _ {Lane Tx Closed Rx Diner : Type 0} (lane : Ghosts Lane Tx Closed Rx) where
+  -- For each plan and ports for which P holds of the old site and its log, the new one is between two turns, if the
+  -- call returned Ok.
+  abbrev pub WorksOn : Stage lane.Identity → Result (Unit {0}) Stop → Running Lane Diner Tx Closed Rx → Running Lane Diner Tx Closed Rx → Type 0
+  WorksOn P result old new = (plan : SeenPlan) (given : List (SeenPort lane.Identity)) → P plan given (seen_run lane old) (memo_of old) old.log.deeds → OnOk result (IsWorking plan given (seen_run lane new) (memo_of new) new.log.deeds)

@@ -38,7 +38,7 @@ pub(crate) struct Place {
 }
 
 impl ForkSlot {
-    ghost use Rattle.dine_site_core.specs.Places.{is_held, is_dirty_in_hand, meals_in};
+    ghost use Rattle.dine_site_core.specs.Places.{is_held, is_clean_in_hand, is_dirty_in_hand, meals_in};
     ghost use Rattle.dine_site_core.specs.private.PlaceSteps.{EndsOf};
 
     /// Whether the site has the fork, in hand or in its meal.
@@ -54,6 +54,16 @@ impl ForkSlot {
     {
         match self {
             ForkSlot::Here(fork) => fork.is_dirty(),
+            ForkSlot::Away | ForkSlot::InMeal(_) => false,
+        }
+    }
+
+    /// Whether the fork is in hand and clean.
+    pub(crate) fn is_clean_in_hand(&self) -> bool
+        ensures { result ≡ is_clean_in_hand self.now }
+    {
+        match self {
+            ForkSlot::Here(fork) => !fork.is_dirty(),
             ForkSlot::Away | ForkSlot::InMeal(_) => false,
         }
     }
@@ -75,7 +85,7 @@ impl Place {
     ghost use Rattle.dine_site_core.specs.Places.{neighbour_of, due_of_neighbour, is_held, is_dirty_in_hand, meals_in};
     ghost use Rattle.dine_site_core.specs.Places.{has_all, can_ask_at, can_give_at, is_own_fork, breach_of_request};
     ghost use Rattle.dine_site_core.specs.Places.{breach_of_fork, breach_of_done, breach_of_close, breach_at};
-    ghost use Rattle.dine_site_core.specs.Places.{place_in_meal};
+    ghost use Rattle.dine_site_core.specs.Places.{can_put_off_at, place_in_meal};
     ghost use Rattle.dine_site_core.specs.Places.{is_over_at, hand_of, fork_in_hand, OnHere, with_fork};
     ghost use Rattle.dine_site_core.specs.private.PlaceSteps.{fresh_place, EndsOf};
 
@@ -139,6 +149,18 @@ impl Place {
             Letter::Done => self.breach_of_done(site),
             Letter::Close => self.breach_of_close(),
         }
+    }
+
+    /// Whether the letter that comes next here can be put off until the next meal. `ate` is the number of meals of the
+    /// site.
+    pub(crate) fn may_put_off(&self, site: u32, ate: u32) -> bool
+        requires ends { EndsOf self.now.fork (neighbour_of site self.now) }
+        requires site { (site ≡ self.now.ends.0) ⊎ (site ≡ self.now.ends.1) }
+        ensures { result ≡ can_put_off_at site ate self.now }
+    {
+        let no_done = self.breach_of(site, ate, &Letter::Done).is_some();
+        let no_close = self.breach_of(site, ate, &Letter::Close).is_some();
+        self.fork.is_clean_in_hand() && no_done && no_close
     }
 
     fn breach_of_request(&self, site: u32, token: &Token) -> Option<Breach>

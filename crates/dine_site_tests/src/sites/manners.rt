@@ -14,17 +14,17 @@ const ONE_AND_TWO: &str = "version = 1\n\
     [[site]]\nname = \"b\"\njobs = [{ name = \"y\" }, { name = \"z\" }]\n\
     [[edge]]\nends = [\"a\", \"b\"]\n";
 
-// The polite one checks its bell before its first meal, so it knows of the request then, and gives the fork after that
-// meal.
+// The polite one hears the ring for the request before its first meal, and puts the letter off, since it holds the fork
+// clean. It takes it before the second meal, and gives the fork.
 const POLITE: [EventKind; 9] = [
     EventKind::Hungry,
     EventKind::Ask(0),
     EventKind::Take(0),
-    EventKind::Take(0),
     EventKind::Begin,
     EventKind::End,
-    EventKind::Give(0),
     EventKind::Hungry,
+    EventKind::Take(0),
+    EventKind::Give(0),
     EventKind::Ask(0),
 ];
 
@@ -122,8 +122,43 @@ fn a_polite_site_gives_the_fork_after_one_meal(rt: HostRuntime) {
         fault: Some(SiteFault::Lost(1)),
     };
     let put = [Kind4::Request, Kind4::Fork, Kind4::Request];
-    leaves::<ChannelLane, HostRuntime>(&rt, rt.alloc(), Manner::Polite, &left, put);
-    leaves::<RingLane, HostRuntime>(&rt, rt.alloc(), Manner::Polite, &left, put)
+    leaves::<ChannelLane, HostRuntime>(&rt, rt.alloc(), Manner::Patient(1), &left, put);
+    leaves::<RingLane, HostRuntime>(&rt, rt.alloc(), Manner::Patient(1), &left, put)
+}
+
+// A site that checks its bell before each meal does as a polite one, and one that checks before every second meal gives
+// the fork after both.
+#[test]
+fn a_patient_site_gives_the_fork_after_so_many_meals(rt: HostRuntime) {
+    let left = Left {
+        site: 1,
+        meals: (1, 0),
+        calls: &[Call { k: 1, ok: true }],
+        forks: &[],
+        log: &[],
+        tokens: &[],
+        ports: (0, 1),
+        journal: POLITE.as_slice(),
+        stray: None,
+        fault: Some(SiteFault::Lost(1)),
+    };
+    let put = [Kind4::Request, Kind4::Fork, Kind4::Request];
+    leaves::<ChannelLane, HostRuntime>(&rt, rt.alloc(), Manner::Patient(1), &left, put);
+    let left = Left {
+        site: 1,
+        meals: (2, 0),
+        calls: &[Call { k: 1, ok: true }, Call { k: 2, ok: true }],
+        forks: &[],
+        log: &[],
+        tokens: &[0],
+        ports: (0, 1),
+        journal: EAGER.as_slice(),
+        stray: None,
+        fault: Some(SiteFault::Lost(1)),
+    };
+    let put = [Kind4::Request, Kind4::Done, Kind4::Fork];
+    leaves::<ChannelLane, HostRuntime>(&rt, rt.alloc(), Manner::Patient(2), &left, put);
+    leaves::<RingLane, HostRuntime>(&rt, rt.alloc(), Manner::Patient(2), &left, put)
 }
 
 #[test]

@@ -38,6 +38,7 @@ use Rattle.dine_site.specs.Ports.{SeenPort, SameLinks, seen_port, seen_ports}
 use Rattle.dine_threads.specs.private.SiteStarts.{AreStartsOf, IsReady, IsEndOf, given_to}
 use Rattle.dine_site.specs.Endings.{OnLinks, breached_at, hands_back}
 use Rattle.dine_site.specs.declared.manner.Manner.{Manner}
+use Rattle.dine_site.specs.Threads.{HasWorkedToEnd}
 use Rattle.dine_site.specs.Doings.{empty_checks_of}
 use Rattle.dine_site.specs.SiteEnds.{IsLeft, seen_site_end}
 use Rattle.dine_site.specs.Times.{IsTimed, none_late}
@@ -145,6 +146,7 @@ module _ {Lane Tx Closed Rx D : Type 0} {lane : Ghosts Lane Tx Closed Rx}
     pub timed : end.fault ≡ None → IsTimed none_late end.clock.events end.journal.items (seen_ports lane end.ports.items)
     pub obeys : ObeysFailures (resigns plan s) end.journal.items (eater.calls start.diner) (eater.calls end.diner)
     pub checks : end.bell.found_empty ≡ empty_checks_of manner end.journal.items
+    pub threads : end.fault ≡ None → HasWorkedToEnd manner plan s end.journal.items end.log.deeds
     pub degree : length end.ports.items ≡ length (edges_of plan s)
 
   pub left_at : (s : ℕ) (end : SiteEnd Lane D Tx Closed Rx) → slice_get ends s ≡ Some end → LeftAt s end
@@ -163,6 +165,9 @@ module _ {Lane Tx Closed Rx D : Type 0} {lane : Ghosts Lane Tx Closed Rx}
         eaten = pair.2.eaten;
         timed = pair.2.timed;
         checks = pair.2.checks ∙ ap (λ m. empty_checks_of m end.journal.items) here.2;
+        threads = λ none.
+            let run = pair.2.threads none plan here.0 in
+            subst (λ m. HasWorkedToEnd m plan s end.journal.items end.log.deeds) here.2 (subst (λ n. HasWorkedToEnd start.manner plan n end.journal.items end.log.deeds) here.1 (run.state, run.memo, run.worked, run.finished));
         obeys = subst (λ (does : Bool). ObeysFailures does end.journal.items (eater.calls start.diner) (eater.calls end.diner)) (here.0.stands.resigns ∙ ap (resigns plan) here.1) pair.2.obeys;
         degree =
             sym (length-map end.ports.items (seen_port lane)) ∙ left.count ∙ length-map start.ports.items (seen_port lane)
@@ -347,6 +352,7 @@ module _ {Lane Tx Closed Rx D : Type 0} {lane : Ghosts Lane Tx Closed Rx}
           eaten = subst (λ d. HasEaten eater.calls eater.marks eater.fits end.0.ate end.0.failed d end.0.diner) same here.eaten;
           obeys = subst (λ d. ObeysFailures (resigns plan s) end.0.journal.items (eater.calls d) (eater.calls end.0.diner)) same here.obeys;
           checks = here.checks;
+          threads = here.threads;
         });
   }
 

@@ -289,7 +289,6 @@ module _ {Lane Tx Closed Rx : Type 0} (lane : Ghosts Lane Tx Closed Rx) where
         ports =
             sym (length-map site_ports.ports.items (seen_port lane)) ∙ sym (ap length row) ∙ sym (length-map (get_or (map row_of all_ports) s []) edge_of) ∙ ap length (placed.edges s within);
         unused = subst (All IsFreshPort) row (placed.unused s within);
-        bell = ap (λ (bell : SeenBell). bell.degree) same ∙ was.bell;
         unrefused = ap (λ (bell : SeenBell). bell.refused) same ∙ was.unrefused;
         unchecked = ap (λ (bell : SeenBell). bell.found_empty) same ∙ was.unchecked;
       }

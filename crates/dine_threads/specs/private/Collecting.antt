@@ -62,7 +62,7 @@ pub record IsRoomFor {S P : Type 0} (plan : SeenPlan) (room : Room S P) : Type 0
 module _ {Lane Tx Closed Rx D : Type 0} where
   -- a site as it ended, without its forks and its ports
   abbrev pub out_of : SiteEnd Lane D Tx Closed Rx → SiteOut D
-  out_of end = record { site = end.site; ate = end.ate; failed = end.failed; diner = end.diner; tokens = end.tokens; journal = end.journal; checks = record { at = end.bell.found_empty; sealed = tt }; stray = end.stray; fault = end.fault }
+  out_of end = record { site = end.site; ate = end.ate; failed = end.failed; diner = end.diner; tokens = end.tokens; journal = end.journal; checks = record { at = end.bell.found_empty; sealed = tt }; log = end.log; stray = end.stray; fault = end.fault }
 
   -- the forks in all hands, site by site
   abbrev pub forks_left : List (SiteEnd Lane D Tx Closed Rx) → List SeenFork

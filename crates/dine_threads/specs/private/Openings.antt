@@ -18,7 +18,6 @@ module _ {Lane Tx Closed Rx : Type 0} where
   -- a site with its bell, and no port yet
   pub record HasNoPort (plan : SeenPlan) (s : ℕ) (site_ports : SitePorts Lane Tx Closed Rx) : Type 0 where
     pub no_port : site_ports.ports.items ≡ []
-    pub bell : site_ports.bell.degree ≡ length (edges_of plan s)
     pub unrefused : site_ports.bell.refused ≡ false
     pub unchecked : site_ports.bell.found_empty ≡ []
 
@@ -60,7 +59,6 @@ module _ {Lane Tx Closed Rx : Type 0} (lane : Ghosts Lane Tx Closed Rx) where
   pub record HasPorts (plan : SeenPlan) (s : ℕ) (site_ports : SitePorts Lane Tx Closed Rx) : Type 0 where
     pub ports : length site_ports.ports.items ≡ length (edges_of plan s)
     pub unused : All IsFreshPort (seen_ports lane site_ports.ports.items)
-    pub bell : site_ports.bell.degree ≡ length (edges_of plan s)
     pub unrefused : site_ports.bell.refused ≡ false
     pub unchecked : site_ports.bell.found_empty ≡ []
 

@@ -11,6 +11,7 @@ use Rattle.dine_site.specs.Doings.{empty_checks_of}
 use Rattle.dine_site.specs.Diners.{HasEaten, ObeysFailures}
 use Rattle.dine_site.specs.Ports.{IsFreshPort, seen_ports}
 use Rattle.dine_site.specs.Starts.{MayStart}
+use Rattle.dine_site.specs.Threads.{IsThreadRun}
 use Rattle.dine_site.specs.Times.{IsTimed, none_late}
 use Rattle.dine_site.specs.SiteEnds.{IsLeft, seen_site_end}
 use Rattle.dine_link.specs.declared.lane.Lane.{Ghosts}
@@ -21,13 +22,12 @@ abbrev pub given_to : {Lane D Tx Closed Rx : Type 0} → PromisedHandle (SiteEnd
 given_to child = child.promise.start.value
 
 module _ {Lane Tx Closed Rx D : Type 0} (lane : Ghosts Lane Tx Closed Rx) where
-  -- What moves into a thread is ready: a core that has done no event, unused link ends and a bell for its places, and a
+  -- What moves into a thread is ready: a core that has done no event, unused link ends for its places, a bell, and a
   -- diner that has capacity for all its meals and expects to eat there.
   pub record IsReady (eater : diners.Ghosts D) (start : SiteStart Lane D Tx Closed Rx) : Type 0 where
     pub fresh : MayStart eater start.diner start.packed
     pub ports : length start.ports.items ≡ length start.packed.places
     pub unused : All IsFreshPort (seen_ports lane start.ports.items)
-    pub bell : start.bell.degree ≡ length start.packed.places
     pub unrefused : start.bell.refused ≡ false
     pub unchecked : start.bell.found_empty ≡ []
     pub room_left : start.packed.due ≤ eater.room_left start.diner
@@ -39,6 +39,7 @@ module _ {Lane Tx Closed Rx D : Type 0} (lane : Ghosts Lane Tx Closed Rx) where
     pub timed : end.fault ≡ None → IsTimed none_late end.clock.events end.journal.items (seen_ports lane end.ports.items)
     pub obeys : ObeysFailures start.packed.resigns end.journal.items (eater.calls start.diner) (eater.calls end.diner)
     pub checks : end.bell.found_empty ≡ empty_checks_of start.manner end.journal.items
+    pub threads : end.fault ≡ None → (plan : SeenPlan) → IsFreshFor plan start.packed → IsThreadRun start.manner plan start.packed.site (seen_ports lane end.ports.items) end.journal.items end.log.deeds
 
 -- in order, each site has a core that is fresh for the plan, and is of this manner
 abbrev pub AreStartsOf : {Lane Tx Closed Rx D : Type 0} → Manner → SeenPlan → List (SiteStart Lane D Tx Closed Rx) → Type 0

@@ -6,7 +6,7 @@ ghost use Rattle.dine_graph.specs.Plan.{IsPlan, SeenPlan, edges_of, site_count};
 ghost use Rattle.dine_rules.specs.Local.{neighbour_at};
 ghost use Rattle.dine_rules.specs.declared.letters.Kind4.TheVariants as kind;
 ghost use Rattle.dine_waking.specs.MannerExamples.{asked_back_run, eats_dirty_run, eats_first_run, rung_run};
-ghost use Rattle.dine_waking.specs.MannerExamples.{rung_too_late_run, unrung_run};
+ghost use Rattle.dine_waking.specs.MannerExamples.{fork_taken_run, rung_too_late_run, unrung_run};
 ghost use Rattle.dine_waking.specs.Examples.{two_sites};
 ghost use Rattle.dine_waking.specs.Manners.{HasRungForAll, HoldsCleanFork, HoldsDirtyFork, IsAsked, LeadsInManner};
 ghost use Rattle.dine_waking.specs.Manners.{MannerStep, WaitsForFork, checked_after, forks_given, meals_so_far};
@@ -41,7 +41,7 @@ pub fn polite_sites_give_after_at_most_one_meal()
         → (before : ℕ) × (checked_there : ℕ → Bool) × (between : Run) × (next : Run) × (behind : ℕ)
         × LeadsInManner plan is_polite before checked old checked_there between
         × (gives : MannerStep plan is_polite checked_there between next)
-        × LeadsInManner plan is_polite behind (checked_after between gives.step.site checked_there)
+        × LeadsInManner plan is_polite behind (checked_after plan between gives.step.site checked_there)
         next checked_then end
         × (forks_given between s i ≡ forks_given old s i) × (forks_given old s i < forks_given next s i)
         × (meals_so_far between s ≤ meals_so_far old s + 1) }
@@ -121,12 +121,14 @@ pub fn a_ring_for_a_request_asks()
 
 /// A polite site may begin one meal after it was asked, even if it had not checked its bell. The higher of two sites
 /// with one job each has a Fork and a Request in its link, and two rings left. It takes both letters, checks its bell,
-/// and begins its meal before it gives the fork.
+/// and begins its meal before it gives the fork. As soon as it has taken the Fork, it holds it clean.
 pub fn a_polite_site_may_begin_one_meal()
     ensures is_plan { IsPlan (two_sites 1 1) }
     ensures asked { LeadsBySteps (two_sites 1 1) 10 (start_run (two_sites 1 1)) asked_back_run }
     ensures has_rung { IsAsked (two_sites 1 1) asked_back_run 1 0 × HasRungForAll (two_sites 1 1) asked_back_run 1 0 }
     ensures waits { WaitsForFork (two_sites 1 1) asked_back_run 0 0 }
+    ensures takes_fork { LeadsBySteps (two_sites 1 1) 2 asked_back_run fork_taken_run }
+    ensures holds_clean_fork { HoldsCleanFork (two_sites 1 1) fork_taken_run 1 0 }
     ensures eats { (checked : ℕ → Bool) → (checked_then : ℕ → Bool)
         × LeadsInManner (two_sites 1 1) (λ s. true) 5 checked asked_back_run checked_then eats_first_run }
     ensures meals { (meals_so_far asked_back_run 1 ≡ 0) × (meals_so_far eats_first_run 1 ≡ 1) }

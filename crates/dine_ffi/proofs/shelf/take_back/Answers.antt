@@ -1,30 +1,11 @@
 use mir.Syntax.{w64}
 use mir.Val.{SFits}
-use Rattle.std.proofs.Common.{rules, ◌≡◌, ◌⊎◌, ℕ, zero, suc, ◌<◌, ℤ, List, [], ◌∷◌, length, Option, Some, None, refl, ap, sym, subst, ◌∙◌, inl, inr, arith, slice_index_or, slice_set}
+use Rattle.std.proofs.Common.{rules, ◌≡◌, ℕ, zero, suc, ◌<◌, ℤ, List, [], ◌∷◌, length, Option, Some, None, refl, ap, sym, subst, ◌∙◌, arith, slice_index_or, slice_set}
 use Rattle.std.proofs.lemmas.Int.{to_z-of_z}
 use Rattle.dine_token.specs.Fork.{SeenFork}
-use Rattle.dine_graph.specs.Plan.{SeenPlan}
-use Rattle.dine_wire.specs.Arrivals.{IsOfPlan, MayCarryOn, carried_on}
-use Rattle.dine_wire.specs.Notes.{fork_note}
-use Rattle.dine_wire.specs.declared.note.ForkNote.{ForkNote}
-use Rattle.dine_wire.specs.declared.wire_fault.WireFault.{WireFault}
-use Rattle.dine_wire.specs.declared.wire_fault.WireFault.TheVariants as fault
-use Rattle.dine_ffi.specs.Answers.{IsNoLetter, memory, wire_status}
-use Rattle.dine_ffi.specs.Shelves.{IsNotCarriedOn, kept_at}
+use Rattle.dine_ffi.specs.Shelves.{IsNotTakenBack, kept_at}
 use Rattle.dine_ffi.proofs.PutBack.{set_back}
 use Rattle.dine_ffi.proofs.shelf.take_back.Goals as goal
-
--- why a fork that was kept did not arrive
-abbrev NotTaken : ℤ → SeenPlan → Option SeenFork → ForkNote → Type 0
-NotTaken r plan kept note = (r ≡ memory) ⊎ (IsNoLetter r × IsNotCarriedOn plan kept note)
-
-not_taken : (r : ℤ) (plan : SeenPlan) (kept : SeenFork) (note : ForkNote) (f : WireFault) → r ≡ wire_status f
-    → (f ≡ fault.Memory) ⊎ (IsOfPlan plan kept → (n : ℕ) → MayCarryOn kept n → note ≡ fork_note (carried_on plan kept n) → ⊥) → NotTaken r plan (Some kept) note
-not_taken r plan kept note f is (inl out) = inl (is ∙ ap wire_status out)
-not_taken r plan kept note fault.Memory is (inr none) = inl is
-not_taken r plan kept note fault.Length is (inr none) = inr ((0, search arith, is), none)
-not_taken r plan kept note fault.Kind is (inr none) = inr ((1, search arith, is), none)
-not_taken r plan kept note fault.Unlawful is (inr none) = inr ((2, search arith, is), none)
 
 -- an element that is there is read, whatever would be read past the end
 other_default : {X : Type 0} (l : List X) (i : ℕ) (a b : X) → i < length l → slice_index_or l i a ≡ slice_index_or l i b
@@ -51,5 +32,5 @@ returns-in-Err-clause-why c =
     λ within.
     let here : kept_at c.args.i shelf ≡ Some c.in-Some.kept =
     other_default shelf c.args.i None c.index_mut.result.now within ∙ sym c.index_mut.ensures.value ∙ sym c.replace.ensures.value ∙ c.in-Some.is in
-    subst (λ (r : ℤ). NotTaken r c.args.plan.now (kept_at c.args.i shelf) c.args.note) (sym (to_z-of_z w64 r fits))
-    (subst (λ (o : Option SeenFork). NotTaken r c.args.plan.now o c.args.note) (sym here) (not_taken r c.args.plan.now c.in-Some.kept c.args.note f c.wire_status-status.ensures.status c.in-Err.ensures.refused))
+    subst (λ (r : ℤ). IsNotTakenBack c.args.plan.now (kept_at c.args.i shelf) c.args.note r) (sym (to_z-of_z w64 r fits))
+    (subst (λ (o : Option SeenFork). IsNotTakenBack c.args.plan.now o c.args.note r) (sym here) (f, c.wire_status-status.ensures.status, c.in-Err.ensures.refused))

@@ -1,7 +1,7 @@
 use mir.Syntax.{w64}
 use mir.Val.{SFits, to_z}
 use Rattle.std.proofs.lemmas.Int.{to_z-of_z}
-use Rattle.std.proofs.Common.{rules, ◌≡◌, ℤ, sym, ◌∙◌, ap, subst}
+use Rattle.std.proofs.Common.{rules, ℤ, sym, ◌∙◌, ap, subst}
 use Rattle.dine_ffi.specs.OwnSites.{TakesOrRefuses}
 use Rattle.dine_ffi.specs.declared.thing.Kept.TheVariants as kept
 use Rattle.dine_ffi.specs.declared.thing.Thing.{Thing}

@@ -30,17 +30,17 @@ same_run : (manner : Manner) (plan : SeenPlan) (links : List SeenLink) {ates ate
 same_run manner plan links {ates' = ates'} {forks = forks} {forks' = forks'} {journals = journals} a f j run =
     subst (IsWholeRun manner plan ates' links forks') j (subst (λ x. IsWholeRun manner plan ates' links x journals) f (subst (λ x. IsWholeRun manner plan x links forks journals) a run))
 
-pub run_with-requires-clause-room : goal.run_with-requires-clause-room
-run_with-requires-clause-room g c κs within = λ many s diner at. omega (arith, ap (λ (log : SeenCallLog). log.room) (c.in-Ok-Ok.ensures.logs s diner at))
+pub run_with_doorbells-ran-requires-clause-room : goal.run_with_doorbells-ran-requires-clause-room
+run_with_doorbells-ran-requires-clause-room g c κs within = λ many s diner at. omega (arith, ap (λ (log : SeenCallLog). log.room) (c.in-Ok-Ok.ensures.logs s diner at))
 
 pub open_diners-requires-clause-sized : goal.open_diners-requires-clause-sized
 open_diners-requires-clause-sized g c κs within = ap (λ values. vec_len values.cells) c.in-Ok-new.ensures.ok ∙ c.in-Ok.ensures.cells ∙ c.requires.values
 
-pub run_with-requires-clause-expected : goal.run_with-requires-clause-expected
-run_with-requires-clause-expected g c κs within = λ many s diner at. (sym (c.in-Ok-Ok.ensures.sites s diner at), sym c.requires.plan, c.in-Ok-Ok.ensures.expected s diner at)
+pub run_with_doorbells-ran-requires-clause-expected : goal.run_with_doorbells-ran-requires-clause-expected
+run_with_doorbells-ran-requires-clause-expected g c κs within = λ many s diner at. (sym (c.in-Ok-Ok.ensures.sites s diner at), sym c.requires.plan, c.in-Ok-Ok.ensures.expected s diner at)
 
-pub returns-in-Ok-run_with-clause-ok : goal.returns-in-Ok-run_with-clause-ok
-returns-in-Ok-run_with-clause-ok g c =
+pub returns-in-Ok-ran-clause-ok : goal.returns-in-Ok-ran-clause-ok
+returns-in-Ok-ran-clause-ok g c =
     let Diner = JobDiner g.row.T.Denot g.row.J.Denot g.row.K.Denot g.row.J-Fault.Denot g.J.Job g.K.Given in
     let Left = SiteDone g.row.J.Denot g.row.J-Fault.Denot in
     let left : SiteOut Diner → Left = λ out. record { site = record { 0 = out.diner.site }; job = out.diner.job; log = out.diner.log; failures = out.diner.failures; journal = out.journal; checks = out.checks } in
@@ -49,9 +49,9 @@ returns-in-Ok-run_with-clause-ok g c =
     let plan = c.args.plan.now in
     let jobs = c.args.jobs.items in
     let diners = c.in-Ok-Ok.diners.items in
-    let run = c.in-Ok-run_with.ensures.ok in
-    let outs = c.in-Ok-run_with.gathered.sites.items in
-    let links = c.in-Ok-run_with.gathered.links.items in
+    let run = c.in-Ok-ran.ensures.ok in
+    let outs = c.in-Ok-ran.gathered.sites.items in
+    let links = c.in-Ok-ran.gathered.links.items in
     let cells = ap (λ values. vec_len values.cells) c.in-Ok-new.ensures.ok ∙ c.in-Ok.ensures.cells ∙ c.requires.values in
     let many : length diners ≡ site_count plan = omega (arith, c.in-Ok-Ok.ensures.many, c.in-Ok-Ok.diners.ok.0) in
     let ran = λ (d : Diner) (first : g.row.J.Denot) (at : slice_get jobs d.site ≡ Some first). d.ran first (ap (λ given. slice_get given d.site) (sym c.requires.given) ∙ at) in
@@ -72,12 +72,12 @@ returns-in-Ok-run_with-clause-ok g c =
     c.finish.ensures.edges
     c.finish.ensures.left
 
-pub returns-in-Ok-run_with-clause-fault : goal.returns-in-Ok-run_with-clause-fault
-returns-in-Ok-run_with-clause-fault g c =
+pub returns-in-Ok-ran-clause-fault : goal.returns-in-Ok-ran-clause-fault
+returns-in-Ok-ran-clause-fault g c =
     IfErr-weaker c.finish.result _ _ (λ fault kept. subst (λ cause. HasCause c.args.plan.now c.args.values c.args.jobs cause fault) (sym kept) (c.requires.values, c.requires.jobs)) c.finish.ensures.kept
 
 pub cause_of-cause-requires : goal.cause_of-cause-requires
-cause_of-cause-requires g c site fault same = in_plan _ c.args.options.manner c.args.plan.now c.in-Ok-Ok.diners c.in-Err-run_with.fault c.in-Err-run_with.ensures.fault site fault (sym c.from.ensures ∙ same)
+cause_of-cause-requires g c site fault same = in_plan _ c.args.options.manner c.args.plan.now c.in-Ok-Ok.diners c.in-Err-ran.fault c.in-Err-ran.ensures.fault site fault (sym c.from.ensures ∙ same)
 
 pub returns-clause-fault : goal.returns-clause-fault
 returns-clause-fault g c =
@@ -85,13 +85,13 @@ returns-clause-fault g c =
     let left = c.fault_of_shared-2.result in
     let many : AreAsMany plan c.args.values c.args.jobs = (c.requires.values, c.requires.jobs) in
     let cells = ap (λ values. vec_len values.cells) c.in-Ok-new.ensures.ok ∙ c.in-Ok.ensures.cells ∙ c.requires.values in
-    let is = c.in-Err-run_with.ensures.fault in
+    let is = c.in-Err-ran.ensures.fault in
     let tells : JobsCause → Type 0 = λ cause. HasCause plan c.args.values c.args.jobs cause left in
     elim c.fault_of_shared-2.ensures [
       | inl kept ↦ subst tells (sym kept) many
       | inr failed ↦
-          let back = jobs_back_of _ c.args.options.manner plan c.in-Ok-Ok.diners left.jobs c.in-Err-run_with.fault is (λ site joined same. ap vec_len failed.2 ∙ c.jobs_of.ensures site joined same) in
+          let back = jobs_back_of _ c.args.options.manner plan c.in-Ok-Ok.diners left.jobs c.in-Err-ran.fault is (λ site joined same. ap vec_len failed.2 ∙ c.jobs_of.ensures site joined same) in
           subst tells (sym (failed.0 ∙ c.cause_of-cause.ensures)) (cause_holds plan c.args.values c.args.jobs left many (failed.1 ∙ cells) c.from.result
-          (λ site fault same. in_plan _ c.args.options.manner plan c.in-Ok-Ok.diners c.in-Err-run_with.fault is site fault (sym c.from.ensures ∙ same))
+          (λ site fault same. in_plan _ c.args.options.manner plan c.in-Ok-Ok.diners c.in-Err-ran.fault is site fault (sym c.from.ensures ∙ same))
           (subst (λ cause. HasJobsBack plan cause left.jobs) (sym c.from.ensures) back))
     ]

@@ -8,13 +8,15 @@ use Rattle.dine_site.specs.Ports.{IsFreshPort, seen_port, seen_ports}
 use Rattle.dine_site.proofs.one_site.Checks.{checks_start}
 use Rattle.dine_site.specs.declared.manner.Manner.{Manner}
 use Rattle.dine_site.specs.Doings.{empty_checks_of}
-use Rattle.dine_site.specs.private.Running.{HasChecked, IsObeying, IsRunning, IsTimedRun, seen_run}
+use Rattle.dine_site.specs.private.Running.{HasChecked, IsObeying, IsRunning, IsTimedRun, seen_run, IsWorking, memo_of}
 use Rattle.dine_site.specs.declared.site_loop.running.Running.{Running}
 use Rattle.dine_site.specs.SiteEnds.{IsSiteEnd}
 use Rattle.dine_site.proofs.one_site.Meals.{eaten_nothing, eaten_same}
 use Rattle.dine_site.proofs.one_site.Obeying.{obeying_as, obeys_as, obeys_end, obeys_fresh}
 use Rattle.dine_site.proofs.one_site.Quits.{quit_reported, quit_reported_before}
 use Rattle.dine_site.proofs.one_site.Ways.{start_runs}
+use Rattle.dine_site.specs.Threads.{IsThreadRun}
+use Rattle.dine_site.proofs.one_site.Working.{worked_nothing}
 use Rattle.dine_site.proofs.site_loop.run_site_with.Goals as goal
 
 along_two : (P : Manner → ℕ → Type 0) {m m' : Manner} {n n' : ℕ} → m ≡ m' → n ≡ n' → P m n → P m' n'
@@ -59,6 +61,7 @@ end-requires-in-Err-clause-may_end g c κs ls =
     (plan, ports, (stopped, c.break_off.ensures.closed))
 
 pub returns-in-Ok : goal.returns-in-Ok
+unfolding start_runs
 returns-in-Ok g c = record {
   end = λ plan fresh.
       let ports = seen_ports g.L.Lane c.args.ports.items in
@@ -108,6 +111,28 @@ returns-in-Ok g c = record {
       let start = subst (λ (site : Running _ _ _ _ _). HasChecked first site) (sym begun) (checks_start first c.args.manner first c.start.result.events c.new.result.items refl c.start.ensures c.new.ensures.items) in
       let manner = c.work.ensures.proceeds.manner ∙ ap (λ (site : Running _ _ _ _ _). site.manner) begun in
       rw (c.end.ensures.bell, c.end.ensures.journal) (subst (λ (m : Manner). c.work.new.self.bell.found_empty ≡ first ++ empty_checks_of m c.work.new.self.journal.items) manner (c.work.ensures.checks first start).checks);
+  threads = λ none plan fresh.
+      let ports = seen_ports g.L.Lane c.args.ports.items in
+      let count : length ports ≡ length c.args.core.places = omega (arith, length-map c.args.ports.items (seen_port g.L.Lane), c.requires.ports, c.args.ports.ok.0) in
+      let start : IsWorking plan ports (seen_run g.L.Lane c.new-site.result) (memo_of c.new-site.result) c.new-site.result.log.deeds = subst (λ (site : Running _ _ _ _ _). IsWorking plan ports (seen_run g.L.Lane site) (memo_of site) site.log.deeds) (sym c.new-site.ensures) (
+        start_runs c.args.manner plan c.args.core ports c.streams_are_kept.ensures.start fresh count c.requires.unused c.args.bell c.requires.unrefused c.new.result.items c.new.ensures.items,
+        worked_nothing c.args.manner plan c.args.core.site c.new.result.items c.start-2.result.deeds c.new.ensures.items c.start-2.ensures,
+      ) in
+      let worked = c.in-Ok.ensures.works plan ports start in
+      let running = worked.0 in
+      let finished = (c.in-Ok.ensures.proceeds.way plan ports start.0).1 plan running.state running.has.keeps running.has.stands in
+      let manner_is = c.work.ensures.proceeds.manner ∙ ap (λ (run : Running _ _ _ _ _). run.manner) c.new-site.ensures in
+      let site = c.work.ensures.proceeds.site ∙ ap (λ (run : Running _ _ _ _ _). run.core.site) c.new-site.ensures in
+      let new = c.work.new.self in
+      let all : IsThreadRun new.manner plan new.core.site (seen_ports g.L.Lane new.ports.items) new.journal.items new.log.deeds = record {
+        state = running.state;
+        memo = memo_of new;
+        worked = worked.1;
+        finished = finished;
+        links = λ i port at. ((running.lists i port at).puts, (running.lists i port at).takes);
+      } in
+      along_two (λ (m : Manner) (n : ℕ). IsThreadRun m plan n (seen_ports g.L.Lane c.end.result.ports.items) c.end.result.journal.items c.end.result.log.deeds) manner_is site
+      (rw (c.end.ensures.log, c.end.ensures.journal, c.end.ensures.left) all);
 }
 
 pub returns-in-Err : goal.returns-in-Err
@@ -162,4 +187,5 @@ returns-in-Err g c = record {
       let manner = c.work.ensures.proceeds.manner ∙ ap (λ (site : Running _ _ _ _ _). site.manner) begun in
       let broke = c.break_off.ensures.checks first (c.work.ensures.checks first start) in
       rw (c.end-in-Err.ensures.bell, c.end-in-Err.ensures.journal) (subst (λ (m : Manner). c.break_off.new.self.bell.found_empty ≡ first ++ empty_checks_of m c.break_off.new.self.journal.items) (c.break_off.ensures.same.manner ∙ manner) broke.checks);
+  threads = λ none. absurd (none-some _ (sym none ∙ c.end-in-Err.ensures.reported));
 }

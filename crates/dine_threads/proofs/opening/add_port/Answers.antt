@@ -9,7 +9,7 @@ pub returns-clause-bells : goal.returns-clause-bells
 returns-clause-bells g c =
     let all_ports = c.args.all_ports.now in
     let old = c.index_mut.result.now in
-    let new : SitePorts _ _ _ _ = record { ports = c.push.new.self; bell = old.bell } in
+    let new : SitePorts _ _ _ _ = record { ports = c.push.new.self; bell = old.bell; outside = old.outside } in
     let bell = λ (site_ports : SitePorts _ _ _ _). site_ports.bell in
     map-set_same bell all_ports.items c.args.site new old (ap bell c.index_mut.ensures.value)
 
@@ -17,7 +17,7 @@ pub returns-clause-rows : goal.returns-clause-rows
 returns-clause-rows g c =
     let all_ports = c.args.all_ports.now in
     let old = c.index_mut.result.now in
-    let new : SitePorts _ _ _ _ = record { ports = c.push.new.self; bell = old.bell } in
+    let new : SitePorts _ _ _ _ = record { ports = c.push.new.self; bell = old.bell; outside = old.outside } in
     let seen = seen_port g.L.Lane in
     map-set_read (λ (site_ports : SitePorts _ _ _ _). map seen site_ports.ports.items) all_ports.items c.args.site old new (λ (row : List (SeenPort g.L.Lane.Identity)). row ++ seen c.args.port ∷ []) []
     (omega (arith, all_ports.ok.0)) c.index_mut.ensures.value (map_grown seen old.ports.items c.push.new.self.items c.args.port c.in_ok-push.ensures.items)

@@ -80,7 +80,6 @@ loop-site_ports-preserved g c =
       fresh = (plan, fresh_for, subst (g.D.Diner.expects diner plan) (sym sited) expected);
       ports = here.ports ∙ sym places;
       unused = here.unused;
-      bell = here.bell ∙ sym places;
       unrefused = here.unrefused;
       unchecked = here.unchecked;
       room_left = omega (arith, due, room);

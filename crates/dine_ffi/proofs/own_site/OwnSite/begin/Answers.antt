@@ -1,4 +1,4 @@
-use Rattle.std.proofs.Common.{◌≡◌, ap, subst}
+use Rattle.std.proofs.Common.{◌≡◌, refl, ap, subst}
 use Rattle.dine_rules.specs.Steps as step
 use Rattle.dine_rules.specs.Steps.{after}
 use Rattle.dine_site_core.specs.Core.{SeenCore, forks_in_hand}
@@ -8,13 +8,15 @@ use Rattle.dine_ffi.proofs.own_site.OwnSite.begin.Goals as goal
 
 pub returns : goal.returns
 returns c =
-    let core = ap (λ (site : SeenOwnSite). site.core) c.self.view_is in
-    record {
-      core = subst (λ (core : SeenCore). CoreSteps step.Begin core c.begin-meal.new.self) core c.begin-meal.ensures.step;
-      begun = c.begin-meal.result;
-      meal = c.replace.ensures.after;
-      fits = c.begin-meal.ensures.meal;
-      forks = subst (λ (core : SeenCore). ForEachState core (λ plan state. c.begin-meal.result.forks ≡ forks_in_hand plan core.site (after plan core.site state step.Begin) (all_places state))) core c.begin-meal.ensures.in_hand;
-      shelf = ap (λ (site : SeenOwnSite). site.shelf) c.self.view_is;
-      plan = ap (λ (site : SeenOwnSite). site.plan) c.self.view_is;
-    }
+    let core = ap (λ (site : SeenOwnSite). site.core) c.self.view_is in (
+      refl,
+      record {
+        core = subst (λ (core : SeenCore). CoreSteps step.Begin core c.begin-meal.new.self) core c.begin-meal.ensures.step;
+        begun = c.begin-meal.result;
+        meal = c.replace.ensures.after;
+        fits = c.begin-meal.ensures.meal;
+        forks = subst (λ (core : SeenCore). ForEachState core (λ plan state. c.begin-meal.result.forks ≡ forks_in_hand plan core.site (after plan core.site state step.Begin) (all_places state))) core c.begin-meal.ensures.in_hand;
+        shelf = ap (λ (site : SeenOwnSite). site.shelf) c.self.view_is;
+        plan = ap (λ (site : SeenOwnSite). site.plan) c.self.view_is;
+      },
+    )

@@ -1,11 +1,12 @@
 use mir.Syntax.{w64}
 use mir.Val.{SFits}
-use Rattle.std.proofs.Common.{rules, ℤ, refl, sym, ◌∙◌, subst}
+use Rattle.std.proofs.Common.{rules, ℕ, ℤ, refl, sym, ◌∙◌, inl, subst}
 use Rattle.std.proofs.lemmas.Int.{to_z-of_z}
 use Rattle.dine_rules.specs.declared.letters.Letter.TheVariants as letter
 use Rattle.dine_wire.specs.Notes.{IsInBytes}
-use Rattle.dine_ffi.specs.OwnSites.{TakesOrRefuses}
-use Rattle.dine_ffi.proofs.NotTaken.{done_or, fork_refuses, other_edge_refuses, refused_is, wire_refuses, word_refuses}
+use Rattle.dine_wire.specs.declared.note.Told.{Told}
+use Rattle.dine_ffi.specs.OwnSites.{TakesOrRefuses, ToldRefuses, WordRefuses}
+use Rattle.dine_ffi.proofs.NotTaken.{done_or, other_edge_refuses, place_refuses, refused_is, word_refuses}
 use Rattle.dine_ffi.proofs.Told.{fork_takes, word_takes}
 use Rattle.dine_ffi.proofs.own_site.OwnSite.take.Goals as goal
 
@@ -15,13 +16,13 @@ returns-in-Err c =
     let r = c.wire_status.result in
     let fits : SFits w64 r = search rules in
     subst (λ (r : ℤ). TakesOrRefuses c.args.bytes.now r old old) (sym (to_z-of_z w64 r fits))
-    (record { outcome = refused_is r _ _ c.wire_status.ensures.refused (λ state is. (refl, wire_refuses c.args.bytes.now old state c.in-Err.fault r c.wire_status.ensures.status c.in-Err.ensures)) })
+    (record { outcome = refused_is r _ _ c.wire_status.ensures.refused (λ state is. (refl, inl (c.in-Err.fault, c.wire_status.ensures.status, c.in-Err.ensures.fault))) })
 
 pub returns-in_default : goal.returns-in_default
 returns-in_default c =
     let note = c.in-Ok.note in
     let in_bytes : IsInBytes note = search rules in
-    record { outcome = λ state is. (refl, other_edge_refuses c.args.bytes.now note c.args.self.now c.in-Ok.ensures in_bytes state is _ refl c.in_default.ensures) }
+    record { outcome = λ state is. (refl, other_edge_refuses c.args.bytes.now note c.args.self.now c.in-Ok.ensures.note in_bytes state is _ refl c.in_default.ensures) }
 
 pub returns-in-Fork : goal.returns-in-Fork
 returns-in-Fork c =
@@ -35,11 +36,12 @@ returns-in-Fork c =
     let fits : SFits w64 r = search rules in
     subst (λ (r : ℤ). TakesOrRefuses c.args.bytes.now r old new) (sym (to_z-of_z w64 r fits)) (record {
       outcome = done_or r _ _
-          (λ zero. (zero, (let w = c.take_fork.ensures.done zero in (i, letter.Fork w.0, fork_takes c.args.bytes.now note i old new c.in-Ok.ensures place c.in-Fork.fork w.0 c.in-Fork.is w.1))))
+          (λ zero. (zero, (let w = c.take_fork.ensures.done zero in (i, letter.Fork w.0, fork_takes c.args.bytes.now note i old new c.in-Ok.ensures.note place c.in-Fork.fork w.0 c.in-Fork.is w.1))))
           c.take_fork.ensures.negative
           (λ refused state is. (
             c.take_fork.ensures.refused refused state is,
-            fork_refuses c.args.bytes.now note old c.in-Ok.ensures in_bytes state is i place c.in-Some.ensures.1 c.in-Fork.fork r c.in-Fork.is (c.take_fork.ensures.why refused state is),
+            place_refuses c.args.bytes.now note old c.in-Ok.ensures.note in_bytes state is i place c.in-Some.ensures.1 r
+                (λ h. subst (λ (t : Told). ToldRefuses i note.edge t r state old) (sym c.in-Fork.is) (c.take_fork.ensures.why refused state is h)),
           ));
     })
 
@@ -56,11 +58,14 @@ returns-in-Request c =
     let fits : SFits w64 r = search rules in
     subst (λ (r : ℤ). TakesOrRefuses c.args.bytes.now r old new) (sym (to_z-of_z w64 r fits)) (record {
       outcome = done_or r _ _
-          (λ zero. (zero, (i, l, word_takes c.args.bytes.now note i old new c.in-Ok.ensures place l c.in-Request.is (c.open.ensures ∙ sym place) refl (c.take_word.ensures.done zero))))
+          (λ zero. (zero, (i, l, word_takes c.args.bytes.now note i old new c.in-Ok.ensures.note place l c.in-Request.is (c.open.ensures ∙ sym place) refl (c.take_word.ensures.done zero))))
           c.take_word.ensures.negative
           (λ refused state is. (
             c.take_word.ensures.refused refused,
-            word_refuses c.args.bytes.now note old c.in-Ok.ensures in_bytes state is i place c.in-Some.ensures.1 l r refl c.in-Request.is (c.open.ensures ∙ sym place) (c.take_word.ensures.why refused),
+            place_refuses c.args.bytes.now note old c.in-Ok.ensures.note in_bytes state is i place c.in-Some.ensures.1 r
+                (λ h. subst (λ (t : Told). ToldRefuses i note.edge t r state old) (sym c.in-Request.is)
+                (subst (λ (e : ℕ). WordRefuses i (letter.Request e) r state old) c.open.ensures
+                (word_refuses c.args.bytes.now note old c.in-Ok.ensures.note in_bytes state is i place c.in-Some.ensures.1 l r (c.take_word.ensures.why refused) h))),
           ));
     })
 
@@ -76,11 +81,13 @@ returns-in-Done c =
     let fits : SFits w64 r = search rules in
     subst (λ (r : ℤ). TakesOrRefuses c.args.bytes.now r old new) (sym (to_z-of_z w64 r fits)) (record {
       outcome = done_or r _ _
-          (λ zero. (zero, (i, letter.Done, word_takes c.args.bytes.now note i old new c.in-Ok.ensures place letter.Done c.in-Done.is tt refl (c.take_word-in-Done.ensures.done zero))))
+          (λ zero. (zero, (i, letter.Done, word_takes c.args.bytes.now note i old new c.in-Ok.ensures.note place letter.Done c.in-Done.is tt refl (c.take_word-in-Done.ensures.done zero))))
           c.take_word-in-Done.ensures.negative
           (λ refused state is. (
             c.take_word-in-Done.ensures.refused refused,
-            word_refuses c.args.bytes.now note old c.in-Ok.ensures in_bytes state is i place c.in-Some.ensures.1 letter.Done r refl c.in-Done.is tt (c.take_word-in-Done.ensures.why refused),
+            place_refuses c.args.bytes.now note old c.in-Ok.ensures.note in_bytes state is i place c.in-Some.ensures.1 r
+                (λ h. subst (λ (t : Told). ToldRefuses i note.edge t r state old) (sym c.in-Done.is)
+                (word_refuses c.args.bytes.now note old c.in-Ok.ensures.note in_bytes state is i place c.in-Some.ensures.1 letter.Done r (c.take_word-in-Done.ensures.why refused) h)),
           ));
     })
 
@@ -96,10 +103,12 @@ returns-in-Close c =
     let fits : SFits w64 r = search rules in
     subst (λ (r : ℤ). TakesOrRefuses c.args.bytes.now r old new) (sym (to_z-of_z w64 r fits)) (record {
       outcome = done_or r _ _
-          (λ zero. (zero, (i, letter.Close, word_takes c.args.bytes.now note i old new c.in-Ok.ensures place letter.Close c.in-Close.is tt refl (c.take_word-in-Close.ensures.done zero))))
+          (λ zero. (zero, (i, letter.Close, word_takes c.args.bytes.now note i old new c.in-Ok.ensures.note place letter.Close c.in-Close.is tt refl (c.take_word-in-Close.ensures.done zero))))
           c.take_word-in-Close.ensures.negative
           (λ refused state is. (
             c.take_word-in-Close.ensures.refused refused,
-            word_refuses c.args.bytes.now note old c.in-Ok.ensures in_bytes state is i place c.in-Some.ensures.1 letter.Close r refl c.in-Close.is tt (c.take_word-in-Close.ensures.why refused),
+            place_refuses c.args.bytes.now note old c.in-Ok.ensures.note in_bytes state is i place c.in-Some.ensures.1 r
+                (λ h. subst (λ (t : Told). ToldRefuses i note.edge t r state old) (sym c.in-Close.is)
+                (word_refuses c.args.bytes.now note old c.in-Ok.ensures.note in_bytes state is i place c.in-Some.ensures.1 letter.Close r (c.take_word-in-Close.ensures.why refused) h)),
           ));
     })

@@ -1,6 +1,6 @@
 use mir.Syntax.{w64}
 use mir.Val.{SFits}
-use Rattle.std.proofs.Common.{rules, ◌≡◌, ℕ, zero, suc, ◌<◌, ℤ, List, [], ◌∷◌, length, slice_get, Some, None, sym, ap, subst, refl, inl, inr, arith}
+use Rattle.std.proofs.Common.{rules, ◌≡◌, ℕ, zero, suc, ◌<◌, ℤ, List, [], ◌∷◌, length, slice_get, Some, None, sym, ap, subst, refl, inr, arith}
 use Rattle.std.proofs.lemmas.Int.{to_z-of_z}
 use Rattle.std.proofs.lemmas.List.{length-set}
 use Rattle.dine_graph.specs.Plan.{SeenPlan}
@@ -8,9 +8,9 @@ use Rattle.dine_rules.specs.declared.letters.Letter.TheVariants as letter
 use Rattle.dine_rules.proofs.one_site.BreachLaw.{no_breach}
 use Rattle.dine_wire.specs.Carried.{IsCarriedOn}
 use Rattle.dine_ffi.specs.OwnSites.{ForkRefuses, SeenOwnSite, SiteTakesFork, StandsFor}
-use Rattle.dine_ffi.specs.Shelves.{AwaitsFork, IsForkBreach, IsNotCarriedOn, kept_at}
+use Rattle.dine_ffi.specs.Shelves.{AwaitsFork, IsForkBreach, IsNotTakenBack, kept_at}
 use Rattle.dine_ffi.specs.private.OwnSiteFields.{seen_own_site}
-use Rattle.dine_ffi.proofs.Arrived.{fork_allowed, fork_breach, goes_on, index_is, none_goes_on}
+use Rattle.dine_ffi.proofs.Arrived.{fork_allowed, fork_breach, fork_refusal, goes_on, index_is}
 use Rattle.dine_ffi.proofs.own_site.OwnSite.take_fork.Goals as goal
 
 -- an element that is there is within the list
@@ -47,7 +47,7 @@ returns-in-Some-clause-why c = λ refused state stands within.
     let seen : IsForkBreach own.plan own.core c.args.i c.args.note w.0 = subst (λ (p : SeenPlan). IsForkBreach p own.core c.args.i c.args.note w.0) c.plan.ensures w.1 in
     subst (λ (n : ℤ). ForkRefuses c.args.i c.args.note n state c.args.self.now) (sym (to_z-of_z w64 r fits))
     (subst (ForkRefuses c.args.i c.args.note r state) c.self.view_is
-    (inr (inr (w.0, w.2, fork_breach state own is c.args.i c.args.note here w.0 seen))))
+    (inr (inr (w.0, w.2, seen, fork_breach state own is c.args.i c.args.note here w.0 seen))))
 
 pub returns-in-Err-clause-why : goal.returns-in-Err-clause-why
 returns-in-Err-clause-why c = λ refused state stands within.
@@ -56,17 +56,12 @@ returns-in-Err-clause-why c = λ refused state stands within.
     let own : SeenOwnSite = seen_own_site c.self.inside in
     let is : StandsFor state own = subst (StandsFor state) (sym c.self.view_is) stands in
     let here : c.args.i < length own.core.places = subst (λ (x : SeenOwnSite). c.args.i < length x.core.places) (sym c.self.view_is) within in
-    let awaits = c.in_default.ensures.awaits in
+    let awaits : AwaitsFork own.plan own.core c.args.i c.args.note = subst (λ (p : SeenPlan). AwaitsFork p own.core c.args.i c.args.note) c.plan.ensures c.in_default.ensures.awaits in
     subst (λ (n : ℤ). ForkRefuses c.args.i c.args.note n state c.args.self.now) (sym (to_z-of_z w64 r fits))
     (subst (ForkRefuses c.args.i c.args.note r state) c.self.view_is
-    (elim (c.in-Err.ensures.why (omega (arith, here, is.core.degree, is.shelf.count))) [
-      | inl out ↦ inl out
-      | inr none ↦ inr (inl (
-        none.0,
-        none_goes_on state own is c.args.i c.args.note here awaits.no_fork
-            (subst (λ (p : SeenPlan). IsNotCarriedOn p (kept_at c.args.i own.shelf) c.args.note) c.plan-2.ensures none.1),
-      ))
-    ]))
+    (fork_refusal state own is c.args.i c.args.note here awaits r
+    (subst (λ (p : SeenPlan). IsNotTakenBack p (kept_at c.args.i own.shelf) c.args.note r) c.plan-2.ensures
+    (c.in-Err.ensures.why (omega (arith, here, is.core.degree, is.shelf.count))))))
 
 pub put_away-requires : goal.put_away-requires
 put_away-requires c =

@@ -1,7 +1,11 @@
-use Rattle.std.proofs.Common.{true, ap, ◌∙◌}
+use Rattle.std.proofs.Common.{◌++◌, ◌∷◌, [], List, Some, true, ap, sym, ◌∙◌}
+use Rattle.std.proofs.lemmas.List.{append_assoc}
+use Rattle.std.proofs.lemmas.Option.{same_Some}
 use Rattle.crossbeam_channel.specs.Claims.{view}
 use Rattle.crossbeam_channel.specs.Ends.{receives_on}
 use Rattle.dine_link.specs.declared.bell_rule.Part.{Part}
+use Rattle.dine_link.specs.declared.deed.Deed.{Deed}
+use Rattle.dine_link.specs.declared.deed.Deed.TheVariants.{Heard, Slept}
 use Rattle.dine_link.specs.Bells.{SeenBell, after_refused_wait}
 use Rattle.dine_link.specs.private.BellRule.{reported_by}
 use Rattle.dine_link.proofs.BellSteps.{hears, still_own, below_degree, reports}
@@ -27,3 +31,10 @@ returns-in_default-recv_as-clause-reported g c =
     let bell = c.self.inside in
     let knows : Part → SeenBell = λ v. record { identity = receives_on bell.receiver; degree = bell.degree; reported = reported_by v; found_empty = bell.empty_checks.at; refused = true } in
     ap knows c.in_default-recv_as.ensures.rule.0 ∙ ap after_refused_wait (c.self.view_is ∙ c.in_default-fall_asleep.ensures.reported ∙ c.in_default.ensures.reported)
+
+pub returns-clause-noted : goal.returns-clause-noted
+returns-clause-noted g c = record {
+  slept = Some c.args.wants;
+  with_these = λ own is. sym (same_Some c.args.wants own is);
+  deeds = c.after-2.ensures ∙ ap (λ (ds : List Deed). ds ++ Heard c.in-Ok.number ∷ []) c.in_default-fall_asleep.ensures.slept ∙ append_assoc c.args.log.now.deeds (Slept c.args.wants ∷ []) (Heard c.in-Ok.number ∷ []);
+}

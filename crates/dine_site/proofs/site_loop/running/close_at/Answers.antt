@@ -17,7 +17,7 @@ returns-clause-closed g c =
     c.swap.ensures.items ∙ ap (λ ys. swap ys i c.len-last.result) (c.push_reserved.ensures.items ∙ ap (λ ys. ys ++ c.close-port.result.0 ∷ []) c.swap_remove.ensures.items)
     ∙ replaced xs i c.len-last.result c.close-port.result.0 c.swap_remove.result within count in
     changed (seen_port g.L.Lane) (λ old new. SendsClose c.args.stamp.at old new c.close-port.result.1) xs c.swap.new.self.items i c.swap_remove.result c.close-port.result.0
-    (slice_get_read xs (length xs) i c.swap_remove.result refl within c.swap_remove.ensures.value) is c.close-port.ensures
+    (slice_get_read xs (length xs) i c.swap_remove.result refl within c.swap_remove.ensures.value) is c.close-port.ensures.sends
 
 pub close-port-requires-clause-live : goal.close-port-requires-clause-live
 close-port-requires-clause-live g c κs ls =

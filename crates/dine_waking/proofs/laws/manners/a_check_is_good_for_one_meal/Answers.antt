@@ -28,16 +28,16 @@ abbrev none : ℕ → Bool
 none = λ s. false
 
 abbrev first : ℕ → Bool
-first = checked_after (start_run (two_sites 1 1)) 0 none
+first = checked_after (two_sites 1 1) (start_run (two_sites 1 1)) 0 none
 
 abbrev second : ℕ → Bool
-second = checked_after lower_hungry 1 first
+second = checked_after (two_sites 1 1) lower_hungry 1 first
 
 abbrev third : ℕ → Bool
-third = checked_after both_hungry 1 second
+third = checked_after (two_sites 1 1) both_hungry 1 second
 
 abbrev fourth : ℕ → Bool
-fourth = checked_after asked 1 third
+fourth = checked_after (two_sites 1 1) asked 1 third
 
 abbrev hungers : MannerStep (two_sites 1 1) (λ s. true) none (start_run (two_sites 1 1)) lower_hungry
 hungers = record {
@@ -63,7 +63,7 @@ rings = record {
   in_manner = tt;
 }
 
-lower_checked : has_checked rung_too_late_run fourth 0 ≡ true
+lower_checked : has_checked (two_sites 1 1) rung_too_late_run fourth 0 ≡ true
 lower_checked = refl
 
 abbrev begins : MannerStep (two_sites 1 1) (λ s. true) fourth rung_too_late_run eats_dirty_run
@@ -76,7 +76,7 @@ pub returns : goal.returns
 returns c = record {
   eats = (
     fourth,
-    checked_after rung_too_late_run 0 fourth,
+    checked_after (two_sites 1 1) rung_too_late_run 0 fourth,
     (lower_hungry, hungers, (both_hungry, higher_hungers, (asked, asks, (rung_too_late_run, rings, (refl, refl))))),
     (eats_dirty_run, begins, (refl, refl)),
   );

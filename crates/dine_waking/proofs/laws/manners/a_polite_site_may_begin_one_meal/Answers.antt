@@ -61,7 +61,7 @@ hungers : RunStep (two_sites 1 1) (rung_run 0) both_hungry
 hungers = lower_does (rung_run 0) both_hungry (ByActing (record { goes_on = refl; kind = event.Hungry; next = refl; world = refl; threads = refl }))
 
 hears : RunStep (two_sites 1 1) both_hungry heard
-hears = lower_does both_hungry heard (ByHearing (record { goes_on = refl; turn = refl; i = 0; rest = []; bell = refl; world = refl; threads = refl }))
+hears = lower_does both_hungry heard (ByHearing (record { goes_on = refl; turn = refl; i = 0; front = []; rest = []; bell = refl; first = refl; world = refl; threads = refl }))
 
 takes : RunStep (two_sites 1 1) heard took
 takes = lower_does heard took (ByTaking (record { i = 0; takes = refl; world = refl; threads = refl }))
@@ -100,19 +100,19 @@ abbrev took_request : Run
 took_request = moment low (state_in Hungry (request ∷ []) (fork_given_first ∷ request ∷ [])) GoesOn [] GoesOn []
 
 abbrev hears_fork : (checked : ℕ → Bool) → MannerStep (two_sites 1 1) (λ s. true) checked asked_back_run heard_fork
-hears_fork checked = politely checked asked_back_run heard_fork (ByHearing (record { goes_on = refl; turn = refl; i = 0; rest = 0 ∷ []; bell = refl; world = refl; threads = refl })) tt
+hears_fork checked = politely checked asked_back_run heard_fork (ByHearing (record { goes_on = refl; turn = refl; i = 0; front = []; rest = 0 ∷ []; bell = refl; first = refl; world = refl; threads = refl })) tt
 
 abbrev takes_fork : (checked : ℕ → Bool) → MannerStep (two_sites 1 1) (λ s. true) checked heard_fork took_fork
 takes_fork checked = politely checked heard_fork took_fork (ByTaking (record { i = 0; takes = refl; world = refl; threads = refl })) tt
 
 abbrev hears_request : (checked : ℕ → Bool) → MannerStep (two_sites 1 1) (λ s. true) checked took_fork heard_request
-hears_request checked = politely checked took_fork heard_request (ByHearing (record { goes_on = refl; turn = refl; i = 0; rest = []; bell = refl; world = refl; threads = refl })) tt
+hears_request checked = politely checked took_fork heard_request (ByHearing (record { goes_on = refl; turn = refl; i = 0; front = []; rest = []; bell = refl; first = refl; world = refl; threads = refl })) tt
 
 abbrev takes_request : (checked : ℕ → Bool) → MannerStep (two_sites 1 1) (λ s. true) checked heard_request took_request
 takes_request checked = politely checked heard_request took_request (ByTaking (record { i = 0; takes = refl; world = refl; threads = refl })) tt
 
-abbrev begins : (checked : ℕ → Bool) → MannerStep (two_sites 1 1) (λ s. true) (checked_after heard_request 1 checked) took_request eats_first_run
-begins checked = politely (checked_after heard_request 1 checked) took_request eats_first_run (ByActing (record { goes_on = refl; kind = event.Begin; next = refl; world = refl; threads = refl })) (λ is. refl)
+abbrev begins : (checked : ℕ → Bool) → MannerStep (two_sites 1 1) (λ s. true) (checked_after (two_sites 1 1) heard_request 1 checked) took_request eats_first_run
+begins checked = politely (checked_after (two_sites 1 1) heard_request 1 checked) took_request eats_first_run (ByActing (record { goes_on = refl; kind = event.Begin; next = refl; world = refl; threads = refl })) (λ is. refl)
 
 pub returns : goal.returns
 returns c = record {
@@ -124,12 +124,14 @@ returns c = record {
   );
   has_rung = (refl, refl);
   waits = (refl, refl, refl);
+  takes_fork = (heard_fork, (hears_fork (λ s. true)).step, (took_fork, (takes_fork (λ s. true)).step, refl));
+  holds_clean_fork = (refl, refl);
   eats = λ checked.
-      let after_first : ℕ → Bool = checked_after asked_back_run 1 checked in
-      let after_second : ℕ → Bool = checked_after heard_fork 1 after_first in
-      let after_third : ℕ → Bool = checked_after took_fork 1 after_second in
-      let after_fourth : ℕ → Bool = checked_after heard_request 1 after_third in (
-        checked_after took_request 1 after_fourth,
+      let after_first : ℕ → Bool = checked_after (two_sites 1 1) asked_back_run 1 checked in
+      let after_second : ℕ → Bool = checked_after (two_sites 1 1) heard_fork 1 after_first in
+      let after_third : ℕ → Bool = checked_after (two_sites 1 1) took_fork 1 after_second in
+      let after_fourth : ℕ → Bool = checked_after (two_sites 1 1) heard_request 1 after_third in (
+        checked_after (two_sites 1 1) took_request 1 after_fourth,
         (
           heard_fork,
           hears_fork checked,

@@ -1,98 +1,72 @@
-use Rattle.std.proofs.Common.{◌≡◌, ◌<◌, ◌≤◌, ◌+◌, ◌++◌, ◌∷◌, [], Some, true, length, ap, sym, subst, ◌∙◌, arith}
-use Rattle.std.proofs.lemmas.List.{length-map}
-use Rattle.std.specs.Prelude.{OnOk, vec_capacity, vec_len}
-use Rattle.dine_site_core.specs.NextEvent.{can_by_itself}
-use Rattle.dine_link.specs.Bells.{SeenBell}
-use Rattle.dine_site.specs.declared.site_loop.running.Running.{Running}
-use Rattle.dine_rules.specs.declared.events.EventKind.TheVariants as event
-use Rattle.dine_site.specs.declared.manner.Manner.{Manner}
-use Rattle.dine_site.specs.Ports.{seen_port}
-use Rattle.dine_site.specs.private.Running.{AreChecks, GoesOn, HasChecked, IsNext, IsRunning, IsTimedRun, MayTakeNow, Proceeds}
-use Rattle.dine_site.proofs.one_site.Checks.{checks_as, checks_meal, may_take_before_meal, same_degree, same_identity, same_refused}
-use Rattle.dine_site.proofs.one_site.Proceeding.{may_then, proceeds_heard, proceeds_same, proceeds_then}
+use Rattle.std.proofs.Common.{◌≡◌, List, Bool, None, ap, refl, sym, subst}
+use Rattle.dine_site.specs.Threads.{HasWorked, Memo, first_that_matters}
+use Rattle.dine_site.specs.private.Running.{GoesOn, memo_of}
+use Rattle.dine_site.proofs.one_site.Checks.{may_take_before_meal}
+use Rattle.dine_site.proofs.one_site.Proceeding.{proceeds_same}
+use Rattle.dine_site.proofs.one_site.PutOff.{may_off, proceeds_from, same_from}
 use Rattle.dine_site.proofs.site_loop.running.Running.begin.Goals as goal
 
--- ---- a ring is left
+-- ---- a letter that was put off matters
 
-pub take_where_rung-requires-clause-running : goal.take_where_rung-requires-clause-running
-take_where_rung-requires-clause-running g c κs ls =
-    let old = c.args.self.now in
-    let bell = c.check_bell.new.self.bell in
-    let heard = subst (λ (run : Running _ _ _ _ _). Proceeds g.L.Lane g.D.Diner IsRunning old run) (sym c.check_bell.ensures.rest)
-    (proceeds_heard g.L.Lane g.D.Diner old bell (ap (λ (b : SeenBell). b.refused) c.in-Some.ensures.bell) (ap (λ (b : SeenBell). b.degree) c.in-Some.ensures.bell) (ap (λ (b : SeenBell). b.identity) c.in-Some.ensures.bell) c.requires.ready.ready) in
-    (may_then g.L.Lane g.D.Diner c.requires.ready heard).running
+pub take_recalled-requires-clause-running : goal.take_recalled-requires-clause-running
+take_recalled-requires-clause-running g c κs ls = c.requires.ready.running
+
+pub take_recalled-requires-clause-turn : goal.take_recalled-requires-clause-turn
+take_recalled-requires-clause-turn g c κs ls = may_take_before_meal c.args.self.now.manner c.args.self.now.skips c.args.self.now.core c.in-Some.ensures.some.0 c.requires.next
 
 pub returns-in-Some-clause-proceeds : goal.returns-in-Some-clause-proceeds
 returns-in-Some-clause-proceeds g c =
     let old = c.args.self.now in
-    let bell = c.check_bell.new.self.bell in
-    let heard = subst (λ (run : Running _ _ _ _ _). Proceeds g.L.Lane g.D.Diner IsRunning old run) (sym c.check_bell.ensures.rest)
-    (proceeds_heard g.L.Lane g.D.Diner old bell (ap (λ (b : SeenBell). b.refused) c.in-Some.ensures.bell) (ap (λ (b : SeenBell). b.degree) c.in-Some.ensures.bell) (ap (λ (b : SeenBell). b.identity) c.in-Some.ensures.bell) c.requires.ready.ready) in
-    proceeds_then g.L.Lane g.D.Diner (GoesOn c.take_where_rung.result) heard
-    (proceeds_same g.L.Lane g.D.Diner (GoesOn c.take_where_rung.result) c.check_bell.new.self c.take_where_rung.new.self c.take_where_rung.ensures.same heard.ready c.take_where_rung.ensures.way)
-
-pub returns-in-Some-clause-checks : goal.returns-in-Some-clause-checks
-returns-in-Some-clause-checks g c first are =
-    let old = c.args.self.now in
-    let bell = c.check_bell.new.self.bell in
-    c.take_where_rung.ensures.checks first
-    (subst (λ (run : Running _ _ _ _ _). HasChecked first run) (sym c.check_bell.ensures.rest)
-    (checks_as first old.manner old.bell.found_empty bell.found_empty old.clock.events old.journal.items (ap (λ (b : SeenBell). b.found_empty) c.in-Some.ensures.bell) are))
-
--- ---- none is left
-
-pub eat-requires-clause-ready : goal.eat-requires-clause-ready
-eat-requires-clause-ready g c κs ls =
-    let old = c.args.self.now in
-    let bell = c.check_bell.new.self.bell in
-    let events = length old.clock.events in
-    let heard = subst (λ (run : Running _ _ _ _ _). Proceeds g.L.Lane g.D.Diner IsRunning old run) (sym c.check_bell.ensures.rest)
-    (proceeds_heard g.L.Lane g.D.Diner old bell (ap (λ (b : SeenBell). b.refused) c.in-None.ensures.bell ∙ same_refused old.manner events old.bell) (ap (λ (b : SeenBell). b.degree) c.in-None.ensures.bell ∙ same_degree old.manner events old.bell) (ap (λ (b : SeenBell). b.identity) c.in-None.ensures.bell ∙ same_identity old.manner events old.bell) c.requires.ready.ready) in
-    may_then g.L.Lane g.D.Diner c.requires.ready heard
-
-pub returns-in-None-clause-proceeds : goal.returns-in-None-clause-proceeds
-returns-in-None-clause-proceeds g c =
-    let old = c.args.self.now in
-    let bell = c.check_bell.new.self.bell in
-    let events = length old.clock.events in
-    let heard = subst (λ (run : Running _ _ _ _ _). Proceeds g.L.Lane g.D.Diner IsRunning old run) (sym c.check_bell.ensures.rest)
-    (proceeds_heard g.L.Lane g.D.Diner old bell (ap (λ (b : SeenBell). b.refused) c.in-None.ensures.bell ∙ same_refused old.manner events old.bell) (ap (λ (b : SeenBell). b.degree) c.in-None.ensures.bell ∙ same_degree old.manner events old.bell) (ap (λ (b : SeenBell). b.identity) c.in-None.ensures.bell ∙ same_identity old.manner events old.bell) c.requires.ready.ready) in
-    proceeds_then g.L.Lane g.D.Diner IsRunning heard c.eat.ensures.proceeds
-
-pub returns-in-None-clause-checks : goal.returns-in-None-clause-checks
-returns-in-None-clause-checks g c first are =
-    let old = c.args.self.now in
-    let rest = c.check_bell.ensures.rest in
-    let manner = c.eat.ensures.proceeds.manner ∙ ap (λ (run : Running _ _ _ _ _). run.manner) rest in
-    let noted = c.eat.ensures.noted ∙ ap (λ (run : Running _ _ _ _ _). length run.clock.events + 2) rest in
-    let journal = c.eat.ensures.journal ∙ ap (λ (run : Running _ _ _ _ _). run.journal.items ++ event.Begin ∷ event.End ∷ []) rest in
-    subst (λ (m : Manner). AreChecks first m c.eat.new.self.bell.found_empty c.eat.new.self.clock.events c.eat.new.self.journal.items) (sym manner)
-    (checks_meal first old.manner old.bell c.eat.new.self.bell old.clock.events c.eat.new.self.clock.events old.journal.items c.eat.new.self.journal.items (c.eat.ensures.bell ∙ c.in-None.ensures.bell) journal noted are)
+    let same = same_from c.recall_before_meal.new.put_off old c.take_recalled.new.self c.take_recalled.ensures.same in
+    proceeds_same g.L.Lane g.D.Diner (GoesOn c.take_recalled.result) old c.take_recalled.new.self same c.requires.ready.ready c.take_recalled.ensures.way
 
 pub returns-in-Some-clause-timed : goal.returns-in-Some-clause-timed
-returns-in-Some-clause-timed g c =
-    subst (λ (run : Running _ _ _ _ _). OnOk c.take_where_rung.result (IsTimedRun g.L.Lane run → IsTimedRun g.L.Lane c.take_where_rung.new.self)) c.check_bell.ensures.rest c.take_where_rung.ensures.timed
+returns-in-Some-clause-timed g c = c.take_recalled.ensures.timed
+
+pub returns-in-Some-clause-checks : goal.returns-in-Some-clause-checks
+returns-in-Some-clause-checks g c = c.take_recalled.ensures.checks
+
+-- ---- none does
+
+pub begin_meal-requires-clause-ready : goal.begin_meal-requires-clause-ready
+begin_meal-requires-clause-ready g c κs ls = may_off g.L.Lane g.D.Diner c.recall_before_meal.new.put_off c.args.self.now c.requires.ready
+
+pub begin_meal-requires-clause-may : goal.begin_meal-requires-clause-may
+begin_meal-requires-clause-may g c κs ls = c.requires.may
+
+pub begin_meal-requires-clause-next : goal.begin_meal-requires-clause-next
+begin_meal-requires-clause-next g c κs ls = c.requires.next
+
+pub begin_meal-requires-clause-room : goal.begin_meal-requires-clause-room
+begin_meal-requires-clause-room g c κs ls = c.requires.room
+
+pub returns-in-None-clause-proceeds : goal.returns-in-None-clause-proceeds
+returns-in-None-clause-proceeds g c = proceeds_from g.L.Lane g.D.Diner c.recall_before_meal.new.put_off (GoesOn c.begin_meal.result) c.args.self.now c.begin_meal.new.self c.begin_meal.ensures.proceeds
 
 pub returns-in-None-clause-timed : goal.returns-in-None-clause-timed
-returns-in-None-clause-timed g c = subst (λ (run : Running _ _ _ _ _). IsTimedRun g.L.Lane run → IsTimedRun g.L.Lane c.eat.new.self) c.check_bell.ensures.rest c.eat.ensures.timed
+returns-in-None-clause-timed g c = c.begin_meal.ensures.timed
 
-pub take_where_rung-requires-clause-place : goal.take_where_rung-requires-clause-place
-take_where_rung-requires-clause-place g c κs ls =
+pub returns-in-None-clause-checks : goal.returns-in-None-clause-checks
+returns-in-None-clause-checks g c = c.begin_meal.ensures.checks
+
+pub begin_meal-requires-clause-recalled : goal.begin_meal-requires-clause-recalled
+begin_meal-requires-clause-recalled g c κs ls checks plan state keeps stands =
+    let memo : Memo = memo_of c.args.self.now in
+    subst (λ (marks : List Bool). first_that_matters plan c.args.self.now.core.site state (record memo { put_off = marks }) ≡ None) (sym c.in-None.ensures.recalled) (c.in-None.ensures.none refl checks plan state keeps stands)
+
+pub returns-in-Some-clause-works : goal.returns-in-Some-clause-works
+returns-in-Some-clause-works g c plan given was =
     let old = c.args.self.now in
-    let ports = length-map old.ports.items (seen_port g.L.Lane) in
-    let within : c.in-Some.i < length old.core.places = omega (arith, c.in-Some.ensures.place, c.requires.ready.ready.bell, c.requires.ready.running.2.has.places, ports, old.ports.ok.0) in
-    subst (λ (run : Running _ _ _ _ _). c.in-Some.i < length run.core.places) (sym c.check_bell.ensures.rest) within
+    let running = was.0 in
+    let memo : Memo = memo_of old in
+    c.take_recalled.ensures.works plan given (
+      running,
+      memo,
+      was.1,
+      c.in-Some.ensures.some.1 plan running.state running.has.keeps running.has.stands,
+      ap (λ (marks : List Bool). record memo { put_off = marks }) c.in-Some.ensures.recalled,
+    )
 
-pub take_where_rung-requires-clause-turn : goal.take_where_rung-requires-clause-turn
-take_where_rung-requires-clause-turn g c κs ls =
-    let old = c.args.self.now in
-    subst (λ (run : Running _ _ _ _ _). MayTakeNow run.manner run.core) (sym c.check_bell.ensures.rest) (may_take_before_meal old.manner old.core c.in-Some.ensures.polite c.requires.next)
-
-pub eat-requires-clause-may : goal.eat-requires-clause-may
-eat-requires-clause-may g c κs ls = subst (λ (run : Running _ _ _ _ _). can_by_itself run.core event.Begin ≡ true) (sym c.check_bell.ensures.rest) c.requires.may
-
-pub eat-requires-clause-next : goal.eat-requires-clause-next
-eat-requires-clause-next g c κs ls = subst (λ (run : Running _ _ _ _ _). IsNext (Some event.Begin) run.core) (sym c.check_bell.ensures.rest) c.requires.next
-
-pub eat-requires-clause-room : goal.eat-requires-clause-room
-eat-requires-clause-room g c κs ls = subst (λ (run : Running _ _ _ _ _). vec_len run.journal + 2 ≤ vec_capacity run.journal) (sym c.check_bell.ensures.rest) c.requires.room
+pub returns-in-None-clause-works : goal.returns-in-None-clause-works
+returns-in-None-clause-works g c plan given was =
+    c.begin_meal.ensures.works plan given (was.0, subst (λ (marks : List Bool). HasWorked c.args.self.now.manner plan c.args.self.now.core.site c.args.self.now.journal.items was.0.state (record (memo_of c.args.self.now) { put_off = marks }) c.args.self.now.log.deeds) (sym c.in-None.ensures.recalled) was.1)

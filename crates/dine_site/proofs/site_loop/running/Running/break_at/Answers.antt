@@ -50,7 +50,7 @@ close_at-requires-clause-place g c κs ls =
     omega (arith, c.requires.place, c.requires.stopped.2.2.has.places, ports, c.args.self.now.ports.ok.0)
 
 pub returns-clause-same : goal.returns-clause-same
-returns-clause-same g c = same_at_place c.args.self.now c.break_off.new.self c.close_at.new.ports c.args.i _ c.args.self.now.journal c.args.self.now.clock c.in-Some.ensures.core c.close_at.ensures.count
+returns-clause-same g c = same_at_place c.args.self.now c.break_off.new.self c.close_at.new.ports c.args.i _ c.args.self.now.journal c.args.self.now.clock _ c.in-Some.ensures.core c.close_at.ensures.count
 
 pub returns-clause-places : goal.returns-clause-places
 returns-clause-places g c = ap (λ (core : SeenCore). length core.places) c.in-Some.ensures.core ∙ length-set c.args.self.now.core.places c.args.i _
@@ -70,6 +70,6 @@ returns-in_default g c =
       way = λ stray cause plan given stopped. subst (λ (k : SeenCore). IsStopped stray cause plan given (record { manner = run.manner; core = k; ports = run.ports; bell = run.bell; journal = run.journal })) (sym is) stopped;
       closed = subst (ClosedBelow (c.args.i + 1)) (sym is) (closed_already c.args.self.now.core c.args.i c.in_default.ensures.none c.requires.before);
       places = ap (λ (core : SeenCore). length core.places) is;
-      same = same_but_ports c.args.self.now c.break_off.new.self c.args.self.now.ports c.args.self.now.journal is refl;
+      same = same_but_ports c.args.self.now c.break_off.new.self c.args.self.now.ports c.args.self.now.journal c.args.self.now.log is refl;
       checks = λ first are. are;
     }

@@ -12,7 +12,7 @@ loop-i-init g c = record {
   closed = λ j h. absurd (omega arith);
   places = refl;
   way = λ stray cause plan given stopped. stopped;
-  same = same_but_ports c.args.self.now c.args.self.now.core c.args.self.now.ports c.args.self.now.journal refl refl;
+  same = same_but_ports c.args.self.now c.args.self.now.core c.args.self.now.ports c.args.self.now.journal c.args.self.now.log refl refl;
   checks = λ first are. are;
 }
 

@@ -3,7 +3,10 @@ use Rattle.std.specs.List.{slice_get}
 use Rattle.dine_rules.specs.declared.letters.Letter.TheVariants as letter
 use Rattle.std.specs.Prelude.{ℕ}
 use Rattle.dine_site.specs.Times.{IsTimed, none_late}
-use Rattle.dine_site.specs.private.Running.{late_at}
+use Rattle.dine_site.specs.private.Running.{late_at, IsWorking, memo_of}
+use Rattle.dine_link.specs.declared.deed.Deed.{Deed}
+use Rattle.dine_rules.specs.Steps.{with_put}
+use Rattle.dine_site.specs.Threads.{HasWorked}
 use Rattle.dine_site.proofs.one_site.Times.{ends_put}
 use Rattle.dine_site.specs.declared.site_end.SiteFault.TheVariants as fault
 use Rattle.dine_site.specs.Ports.{SeenPort, seen_ports}
@@ -73,13 +76,13 @@ returns-in-Heard-clause-timed g c = λ timed.
     (ends_put c.args.self.now.clock.events c.args.self.now.journal.items run.ports c.args.i c.last-stamp.result.at there.0 new late there.1 refl refl)
 
 pub returns-in-Heard-clause-same : goal.returns-in-Heard-clause-same
-returns-in-Heard-clause-same g c = same_but_ports c.args.self.now c.args.self.now.core c.close_at.new.ports c.args.self.now.journal refl c.close_at.ensures.count
+returns-in-Heard-clause-same g c = same_but_ports c.args.self.now c.args.self.now.core c.close_at.new.ports c.args.self.now.journal _ refl c.close_at.ensures.count
 
 pub returns-in-Unheard-clause-same : goal.returns-in-Unheard-clause-same
-returns-in-Unheard-clause-same g c = same_but_ports c.args.self.now c.args.self.now.core c.close_at.new.ports c.args.self.now.journal refl c.close_at.ensures.count
+returns-in-Unheard-clause-same g c = same_but_ports c.args.self.now c.args.self.now.core c.close_at.new.ports c.args.self.now.journal _ refl c.close_at.ensures.count
 
 pub returns-in-Refused-clause-same : goal.returns-in-Refused-clause-same
-returns-in-Refused-clause-same g c = same_but_ports c.args.self.now c.args.self.now.core c.close_at.new.ports c.args.self.now.journal refl c.close_at.ensures.count
+returns-in-Refused-clause-same g c = same_but_ports c.args.self.now c.args.self.now.core c.close_at.new.ports c.args.self.now.journal _ refl c.close_at.ensures.count
 
 pub returns-in-Heard-clause-checks : goal.returns-in-Heard-clause-checks
 returns-in-Heard-clause-checks g c first are = are
@@ -95,3 +98,21 @@ returns-in-Refused-clause-timed g c = tt
 
 pub returns-in-Refused-clause-checks : goal.returns-in-Refused-clause-checks
 returns-in-Refused-clause-checks g c first are = are
+
+pub returns-in-Heard-clause-works : goal.returns-in-Heard-clause-works
+unfolding close_runs
+returns-in-Heard-clause-works g c plan given was =
+    let putting = was.0 in
+    let run : SeenRun g.L.Lane.Identity = seen_run g.L.Lane c.args.self.now in
+    let there = there_is run.ports c.args.i (putting_within plan given run c.args.i letter.Close putting) in
+    let sent = of_there _ (slice_get run.ports c.args.i) there.0 there.1 c.in-Heard.ensures.closed in
+    let ports : seen_ports g.L.Lane c.close_at.new.ports.items ≡ set run.ports c.args.i (port_after_close c.last-stamp.result.at there.0) = sent.2 ∙ ap (set run.ports c.args.i) sent.1 in
+    let runs = close_runs plan given run c.last-stamp.result.at c.args.i putting there.0 there.1 in
+    let worked = subst (λ (ds : List Deed). HasWorked run.manner plan run.core.site run.journal (with_put c.args.i letter.Close putting.before) (memo_of c.args.self.now) ds) (sym c.in-Heard.ensures.noted.deeds) (was.1 c.in-Heard.ensures.noted.woken) in
+    subst (λ (ps : List (SeenPort g.L.Lane.Identity)). IsWorking plan given (record { manner = run.manner; core = run.core; ports = ps; bell = run.bell; journal = run.journal }) (memo_of c.args.self.now) c.close_at.new.log.deeds) (sym ports) (runs, worked)
+
+pub returns-in-Unheard-clause-works : goal.returns-in-Unheard-clause-works
+returns-in-Unheard-clause-works g c plan given was = tt
+
+pub returns-in-Refused-clause-works : goal.returns-in-Refused-clause-works
+returns-in-Refused-clause-works g c plan given was = tt

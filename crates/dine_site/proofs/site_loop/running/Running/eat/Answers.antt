@@ -17,6 +17,11 @@ use Rattle.dine_site.proofs.one_site.WholeMeals.{whole_meal}
 use Rattle.dine_site.proofs.one_site.Obeying.{obeys_meal, hungry_goes_on}
 use Rattle.dine_site.proofs.one_site.Meals.{eaten_more, failed_by}
 use Rattle.dine_site.proofs.one_site.Ways.{eat_runs}
+use Rattle.dine_site.proofs.one_site.Working.{meal_led, meal_logged, worked_more}
+use Rattle.dine_site.specs.Threads.{Eats}
+use Rattle.dine_rules.specs.Steps.{Begin, after}
+use Rattle.dine_site_core.specs.Core.{forks_in_hand}
+use Rattle.dine_site_core.specs.Standing.{all_places}
 use Rattle.dine_site.proofs.site_loop.running.Running.eat.Goals as goal
 
 two_more : (events first second : List (EventKind × ℕ)) (e f : EventKind × ℕ) → first ≡ events ++ e ∷ [] → second ≡ first ++ f ∷ [] → length second ≡ length events + 2
@@ -30,6 +35,7 @@ byte_of true = refl
 byte_of false = refl
 
 pub returns : goal.returns
+unfolding eat_runs
 returns g c =
     let old = c.args.self.now in
     let core = old.core in
@@ -67,7 +73,19 @@ returns g c =
           alone c.note.new.clock.events c.note.new.journal.items ports event.End (last_moment c.note.new.clock.events + 1) (omega arith) first c.note-2.new.journal.items c.note-2.ensures.journal c.note-2.new.clock.events c.note-2.ensures.clock refl;
       bell = refl;
       journal = c.note-2.ensures.journal ∙ ap (λ (kinds : List EventKind). kinds ++ event.End ∷ []) c.note.ensures.journal ∙ append_assoc old.journal.items (event.Begin ∷ []) (event.End ∷ []);
+      works = λ plan given (running, memo, before, was, quiet, checked, counted).
+          let state = after plan core.site running.state Begin in
+          let began = c.begin-meal.ensures.step plan running.state running.has.keeps running.has.stands in
+          let hands = c.begin-meal.ensures.in_hand plan running.state running.has.keeps running.has.stands ∙ ap (λ (s : ℕ). forks_in_hand plan s state (all_places state)) (sym began.site) in
+          let ended = c.end.ensures.step plan state began.keeps began.stands hands in
+          let next = c.requires.next plan running.state running.has.keeps running.has.stands in (
+            eat_runs plan given run c.journals_grow_by_each_event.ensures.event failed c.begin-meal.new.self c.end.new.self c.begin-meal.result.forks c.note.new.journal.items c.note-2.new.journal.items c.note.ensures.journal c.note-2.ensures.journal c.begin-meal.ensures.step c.begin-meal.ensures.in_hand c.end.ensures.step c.requires.next running,
+            worked_more old.manner plan (Eats failed) (event.Begin ∷ event.End ∷ []) was (next, quiet) (meal_led plan core.site c.begin-meal.new.self.site running.state failed began.site began.allowed.needs ended.allowed.needs) refl (ended.site ∙ began.site)
+                (c.note-2.ensures.journal ∙ ap (λ (kinds : List EventKind). kinds ++ event.End ∷ []) c.note.ensures.journal ∙ append_assoc old.journal.items (event.Begin ∷ []) (event.End ∷ [])) counted
+                (meal_logged old.manner memo before old.log.deeds c.note.new.log.deeds c.note-2.new.log.deeds checked c.note.ensures.log c.note-2.ensures.log failed),
+          );
       noted = two_more old.clock.events c.note.new.clock.events c.note-2.new.clock.events _ _ c.note.ensures.clock c.note-2.ensures.clock;
+      skips = refl;
     }
 
 pub eat-requires-clause-own : goal.eat-requires-clause-own

@@ -36,3 +36,6 @@ returns-clause-diner g c = refl
 
 pub returns-clause-reported : goal.returns-clause-reported
 returns-clause-reported g c = refl
+
+pub returns-clause-log : goal.returns-clause-log
+returns-clause-log g c = refl

@@ -23,7 +23,7 @@ returns-in-Err-clause-way g c plan given running =
     subst (λ (kinds : List EventKind). IsStopped None fault.Memory plan given (record run { journal = kinds })) (sym c.reserve.ensures.items) (memory_stop plan given run running)
 
 pub returns-in-Ok-clause-same : goal.returns-in-Ok-clause-same
-returns-in-Ok-clause-same g c = same_but_ports c.args.self.now c.args.self.now.core c.args.self.now.ports c.reserve.new.self refl refl
+returns-in-Ok-clause-same g c = same_but_ports c.args.self.now c.args.self.now.core c.args.self.now.ports c.reserve.new.self c.args.self.now.log refl refl
 
 pub returns-in-Ok-clause-timed : goal.returns-in-Ok-clause-timed
 returns-in-Ok-clause-timed g c timed = subst (λ (kinds : List EventKind). IsTimed none_late c.args.self.now.clock.events kinds (seen_ports g.L.Lane c.args.self.now.ports.items)) (sym c.reserve.ensures.items) timed
@@ -31,10 +31,10 @@ returns-in-Ok-clause-timed g c timed = subst (λ (kinds : List EventKind). IsTim
 pub returns-in-Ok-clause-checks : goal.returns-in-Ok-clause-checks
 returns-in-Ok-clause-checks g c first are =
     let old = c.args.self.now in
-    subst (λ (kinds : List EventKind). AreChecks first old.manner old.bell.found_empty old.clock.events kinds) (sym c.reserve.ensures.items) are
+    subst (λ (kinds : List EventKind). AreChecks first old.manner old.skips old.bell.found_empty old.clock.events kinds) (sym c.reserve.ensures.items) are
 
 pub returns-in-Err-clause-same : goal.returns-in-Err-clause-same
-returns-in-Err-clause-same g c = same_but_ports c.args.self.now c.args.self.now.core c.args.self.now.ports c.reserve.new.self refl refl
+returns-in-Err-clause-same g c = same_but_ports c.args.self.now c.args.self.now.core c.args.self.now.ports c.reserve.new.self c.args.self.now.log refl refl
 
 pub returns-in-Err-clause-timed : goal.returns-in-Err-clause-timed
 returns-in-Err-clause-timed g c timed = subst (λ (kinds : List EventKind). IsTimed none_late c.args.self.now.clock.events kinds (seen_ports g.L.Lane c.args.self.now.ports.items)) (sym c.reserve.ensures.items) timed
@@ -42,4 +42,4 @@ returns-in-Err-clause-timed g c timed = subst (λ (kinds : List EventKind). IsTi
 pub returns-in-Err-clause-checks : goal.returns-in-Err-clause-checks
 returns-in-Err-clause-checks g c first are =
     let old = c.args.self.now in
-    subst (λ (kinds : List EventKind). AreChecks first old.manner old.bell.found_empty old.clock.events kinds) (sym c.reserve.ensures.items) are
+    subst (λ (kinds : List EventKind). AreChecks first old.manner old.skips old.bell.found_empty old.clock.events kinds) (sym c.reserve.ensures.items) are

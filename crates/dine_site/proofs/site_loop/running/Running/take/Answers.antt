@@ -1,4 +1,4 @@
-use Rattle.std.proofs.Common.{◌≡◌, ◌<◌, false, length, Result, Err, sym, subst, rules}
+use Rattle.std.proofs.Common.{◌≡◌, ◌<◌, false, length, List, Result, Err, ap, sym, subst, rules}
 use Rattle.std.specs.Prelude.{OnOk}
 use Rattle.dine_site.specs.declared.site_loop.running.Stop.{Stop}
 use Rattle.dine_rules.specs.Letters.{has_close}
@@ -6,7 +6,10 @@ use Rattle.dine_rules.specs.Local.{traffic_at}
 use Rattle.dine_site_core.specs.Core.{SeenCore}
 use Rattle.dine_site_core.specs.Standing.{ForEachState}
 use Rattle.dine_site.specs.declared.manner.Manner.{Manner}
-use Rattle.dine_site.specs.private.Running.{GoesOn, IsRunning, IsTimedRun, Leads, MayTakeNow}
+use Rattle.dine_site.specs.private.Running.{GoesOn, IsRunning, IsTimedRun, Leads, MayTakeNow, IsToTake, SeenRun, WorksOn, memo_of, seen_run}
+use Rattle.dine_site.specs.Threads.{Memo}
+use Rattle.dine_link.specs.declared.deed.Deed.{Deed}
+use Rattle.dine_link.specs.declared.thread_log.ThreadLog.{ThreadLog}
 use Rattle.dine_site.proofs.one_site.Times.{on_ok}
 use Rattle.dine_site.proofs.one_site.Same.{same_then}
 use Rattle.dine_site.proofs.site_loop.running.Running.take.Goals as goal
@@ -32,6 +35,7 @@ returns-in_err-make_room g c =
       same = c.make_room.ensures.same;
       timed = subst (λ (result : Result (Unit {0}) Stop). OnOk result (IsTimedRun g.L.Lane c.args.self.now → IsTimedRun g.L.Lane c.make_room.new.self)) (sym is) tt;
       checks = c.make_room.ensures.checks;
+      works = subst (λ (result : Result (Unit {0}) Stop). WorksOn g.L.Lane (IsToTake c.args.i) result c.args.self.now c.make_room.new.self) (sym is) (λ plan given was. tt);
     }
 
 pub take_and_note-requires-clause-running : goal.take_and_note-requires-clause-running
@@ -50,3 +54,11 @@ pub take_and_note-requires-clause-turn : goal.take_and_note-requires-clause-turn
 take_and_note-requires-clause-turn g c κs ls =
     subst (λ (manner : Manner). MayTakeNow manner c.make_room.new.self.core) (sym c.make_room.ensures.same.manner)
     (subst (λ (core : SeenCore). MayTakeNow c.args.self.now.manner core) (sym c.make_room.ensures.core) c.requires.turn)
+
+pub returns-clause-works : goal.returns-clause-works
+returns-clause-works g c plan given was =
+    let old = c.args.self.now in
+    let new = c.make_room.new.self in
+    let logged = subst (λ (ds : List Deed). IsToTake c.args.i plan given (seen_run g.L.Lane old) (memo_of old) ds) (ap (λ (log : ThreadLog). log.deeds) (sym c.make_room.ensures.log)) was in
+    let seen = subst (λ (run : SeenRun g.L.Lane.Identity). IsToTake c.args.i plan given run (memo_of old) new.log.deeds) (sym c.in_ok-make_room.ensures.running) logged in
+    c.take_and_note.ensures.works plan given (subst (λ (memo : Memo). IsToTake c.args.i plan given (seen_run g.L.Lane new) memo new.log.deeds) (sym c.make_room.ensures.memo) seen)

@@ -1,4 +1,4 @@
-use Rattle.std.proofs.Common.{◌<◌, List, length, set, Some, None, sym, ◌∙◌, ap, subst, arith}
+use Rattle.std.proofs.Common.{◌<◌, ℕ, List, length, set, Some, None, sym, ◌∙◌, ap, subst, arith}
 use Rattle.std.proofs.lemmas.List.{length-map}
 use Rattle.dine_rules.specs.declared.letters.Letter.{Letter}
 use Rattle.std.specs.Prelude.{◌+◌, refl}
@@ -9,7 +9,14 @@ use Rattle.dine_site.proofs.one_site.Times.{takes_one}
 use Rattle.dine_site.specs.declared.site_end.SiteFault.TheVariants as fault
 use Rattle.dine_site.specs.Ports.{SeenPort, seen_port, seen_ports}
 use Rattle.dine_site.specs.private.PortSteps.{port_after_take, port_after_refused_take}
-use Rattle.dine_site.specs.private.Running.{SeenRun, IsRunning, IsStopped, seen_run}
+use Rattle.dine_site.specs.private.Running.{SeenRun, IsRunning, IsStopped, IsWorking, memo_of, seen_run}
+use Rattle.std.specs.Prelude.{◌++◌, ◌∷◌, []}
+use Rattle.dine_link.specs.declared.deed.Deed.{Deed}
+use Rattle.dine_link.specs.declared.deed.Deed.TheVariants.{Did}
+use Rattle.dine_site.specs.Threads.{HasWorked, Memo}
+use Rattle.dine_rules.specs.declared.events.EventKind.{EventKind}
+use Rattle.dine_rules.specs.Local.{LocalState}
+use Rattle.dine_rules.specs.Steps.{Take, after}
 use Rattle.dine_rules.specs.Letters.{has_close}
 use Rattle.dine_site.proofs.lists.Seen.{seen_at, seen_set}
 use Rattle.dine_site_core.specs.Core.{SeenCore}
@@ -95,18 +102,18 @@ returns-in-Ok-take-clause-timed g c = λ timed.
 pub returns-in-Ok-take-clause-checks : goal.returns-in-Ok-take-clause-checks
 returns-in-Ok-take-clause-checks g c first are =
     let old = c.args.self.now in
-    checks_more first old.manner old.bell.found_empty old.clock.events old.journal.items (event.Take c.args.i) (last_moment old.clock.events + c.in-Ok.stamp.at + 1) refl
+    checks_more first old.manner old.skips old.bell.found_empty old.clock.events old.journal.items (event.Take c.args.i) (last_moment old.clock.events + c.in-Ok.stamp.at + 1) refl
     c.after-self.result.events c.after-self.ensures c.push_reserved.new.self.items c.push_reserved.ensures.items are
 
 pub returns-in-Ok-take-clause-same : goal.returns-in-Ok-take-clause-same
 returns-in-Ok-take-clause-same g c =
-    same_at_place c.args.self.now c.take-in-Ok.new.self _ c.args.i _ c.push_reserved.new.self c.after-self.result c.in-Ok-take.ensures.core refl
+    same_at_place c.args.self.now c.take-in-Ok.new.self _ c.args.i _ c.push_reserved.new.self c.after-self.result _ c.in-Ok-take.ensures.core refl
 
 pub returns-in-Err-take-clause-same : goal.returns-in-Err-take-clause-same
-returns-in-Err-take-clause-same g c = same_but_ports c.args.self.now c.take-in-Ok.new.self _ c.args.self.now.journal c.in-Err-take.ensures.core.0 refl
+returns-in-Err-take-clause-same g c = same_but_ports c.args.self.now c.take-in-Ok.new.self _ c.args.self.now.journal _ c.in-Err-take.ensures.core.0 refl
 
 pub returns-in-Err-clause-same : goal.returns-in-Err-clause-same
-returns-in-Err-clause-same g c = same_but_ports c.args.self.now c.args.self.now.core _ c.args.self.now.journal refl refl
+returns-in-Err-clause-same g c = same_but_ports c.args.self.now c.args.self.now.core _ c.args.self.now.journal _ refl refl
 
 pub returns-in-Err-take-clause-timed : goal.returns-in-Err-take-clause-timed
 returns-in-Err-take-clause-timed g c = tt
@@ -119,3 +126,28 @@ returns-in-Err-clause-timed g c = tt
 
 pub returns-in-Err-clause-checks : goal.returns-in-Err-clause-checks
 returns-in-Err-clause-checks g c first are = are
+
+pub returns-in-Ok-take-clause-works : goal.returns-in-Ok-take-clause-works
+unfolding take_runs
+returns-in-Ok-take-clause-works g c plan given (running, then) =
+    let f = seen_port g.L.Lane in
+    let items = c.args.self.now.ports.items in
+    let run : SeenRun g.L.Lane.Identity = seen_run g.L.Lane c.args.self.now in
+    let within : c.args.i < length items = omega (arith, c.requires.place, running.has.places, length-map items f) in
+    let at = seen_at f items c.args.i c.index_mut.result.now within c.index_mut.ensures.value in
+    let ports = seen_set f items c.args.i c.take.new.self (port_after_take c.in-Ok.stamp.at c.in-Ok.letter (f c.index_mut.result.now)) c.in-Ok.ensures in
+    let runs = take_runs plan given run c.journals_grow_by_each_event.ensures.event c.in-Ok.stamp.at c.args.i c.in-Ok.letter c.take-in-Ok.new.self c.push_reserved.new.self.items c.push_reserved.ensures.items c.requires.place c.in-Ok-take.ensures.step c.requires.turn running (f c.index_mut.result.now) at in
+    let did = c.in-Ok-take.ensures.step plan running.state running.has.keeps running.has.stands in
+    let memo : Memo = memo_of c.args.self.now in
+    let state : LocalState = after plan run.core.site running.state (Take c.args.i c.in-Ok.letter) in
+    let took = then c.in-Ok.letter did.allowed.needs in
+    let noted = subst (λ (kinds : List EventKind). HasWorked run.manner plan run.core.site kinds state memo (c.args.self.now.log.deeds ++ Did (event.Take c.args.i) ∷ [])) (sym c.push_reserved.ensures.items) took in
+    let logged = subst (λ (ds : List Deed). HasWorked run.manner plan run.core.site c.push_reserved.new.self.items state memo ds) (sym c.after_event-self.ensures) noted in
+    let worked = subst (λ (n : ℕ). HasWorked run.manner plan n c.push_reserved.new.self.items state memo c.after_event-self.result.deeds) (sym did.site) logged in
+    subst (λ (ps : List (SeenPort g.L.Lane.Identity)). IsWorking plan given (record { manner = run.manner; core = c.take-in-Ok.new.self; ports = ps; bell = run.bell; journal = c.push_reserved.new.self.items }) memo c.after_event-self.result.deeds) (sym ports) (runs, worked)
+
+pub returns-in-Err-take-clause-works : goal.returns-in-Err-take-clause-works
+returns-in-Err-take-clause-works g c plan given was = tt
+
+pub returns-in-Err-clause-works : goal.returns-in-Err-clause-works
+returns-in-Err-clause-works g c plan given was = tt

@@ -1,87 +1,75 @@
-use Rattle.std.proofs.Common.{◌∙◌, ap, refl, sym, subst, arith}
-use Rattle.std.proofs.lemmas.List.{length-map}
-use Rattle.dine_link.specs.Bells.{SeenBell}
-use Rattle.dine_site.specs.declared.site_loop.running.Stop.{Stop}
-use Rattle.dine_site.specs.Ports.{seen_port}
-use Rattle.dine_site.specs.private.Running.{SeenRun, IsStopped, seen_run}
-use Rattle.dine_site.proofs.one_site.Checks.{checks_as, may_take_quiet}
-use Rattle.dine_site.proofs.one_site.Stops.{bell_stops}
-use Rattle.dine_site.proofs.one_site.Ways.{heard_runs}
+use Rattle.std.proofs.Common.{◌≡◌, List, Bool, None, ap, sym, subst, ◌∙◌}
+use Rattle.dine_site.specs.Threads.{HasWorked, Memo, first_that_matters}
+use Rattle.dine_site.specs.private.Running.{memo_of}
+use Rattle.dine_site.proofs.one_site.Checks.{may_take_idle}
+use Rattle.dine_site.proofs.one_site.PutOff.{same_from}
 use Rattle.dine_site.proofs.site_loop.running.Running.wait_and_take.Goals as goal
 
-pub returns-in-Err-clause-way : goal.returns-in-Err-clause-way
-returns-in-Err-clause-way g c plan given running =
-    let run : SeenRun g.L.Lane.Identity = seen_run g.L.Lane c.args.self.now in
-    let new : SeenRun g.L.Lane.Identity = record { manner = run.manner; core = run.core; ports = run.ports; bell = c.wait_for.new.self; journal = run.journal } in
-    subst (λ (stop : Stop). IsStopped stop.stray stop.fault plan given new) (sym c.lost_bell.ensures) (bell_stops plan given run c.wait_for.new.self (ap (λ (b : SeenBell). b.refused) c.in-Err.ensures.reported) running)
+-- ---- a letter that was put off matters
 
-pub take_where_rung-requires-clause-running : goal.take_where_rung-requires-clause-running
-take_where_rung-requires-clause-running g c κs ls =
-    let run : SeenRun g.L.Lane.Identity = seen_run g.L.Lane c.args.self.now in
-    let p = c.requires.running in
-    (p.0, p.1, heard_runs p.0 p.1 run c.wait_for.new.self (ap (λ (b : SeenBell). b.refused) c.in-Ok.ensures.reported) p.2)
+pub take_recalled-requires-clause-running : goal.take_recalled-requires-clause-running
+take_recalled-requires-clause-running g c κs ls = c.requires.running
 
-pub take_where_rung-requires-clause-place : goal.take_where_rung-requires-clause-place
-take_where_rung-requires-clause-place g c κs ls =
-    let ports = length-map c.args.self.now.ports.items (seen_port g.L.Lane) in
-    let degree = ap (λ (b : SeenBell). b.degree) c.in-Ok.ensures.reported in
-    omega (arith, c.in-Ok.ensures.below, degree, c.requires.bell, c.requires.running.2.has.places, ports)
+pub take_recalled-requires-clause-turn : goal.take_recalled-requires-clause-turn
+take_recalled-requires-clause-turn g c κs ls = may_take_idle c.args.self.now.manner c.args.self.now.core c.requires.idle
 
-pub take_where_rung-requires-clause-turn : goal.take_where_rung-requires-clause-turn
-take_where_rung-requires-clause-turn g c κs ls = may_take_quiet c.args.self.now.manner c.args.self.now.core c.requires.quiet
+pub returns-in-Some-clause-way : goal.returns-in-Some-clause-way
+returns-in-Some-clause-way g c = c.take_recalled.ensures.way
 
-pub returns-in-Ok-clause-way : goal.returns-in-Ok-clause-way
-returns-in-Ok-clause-way g c plan given running =
-    let run : SeenRun g.L.Lane.Identity = seen_run g.L.Lane c.args.self.now in
-    c.take_where_rung.ensures.way plan given (heard_runs plan given run c.wait_for.new.self (ap (λ (b : SeenBell). b.refused) c.in-Ok.ensures.reported) running)
+pub returns-in-Some-clause-same : goal.returns-in-Some-clause-same
+returns-in-Some-clause-same g c = same_from c.recall.new.put_off c.args.self.now c.take_recalled.new.self c.take_recalled.ensures.same
 
-pub returns-in-Ok-clause-same : goal.returns-in-Ok-clause-same
-returns-in-Ok-clause-same g c =
-    let same = c.take_where_rung.ensures.same in
-    record {
-      manner = same.manner;
-      site = same.site;
-      due = same.due;
-      ate = same.ate;
-      resigns = same.resigns;
-      must_quit = same.must_quit;
-      has_quit = same.has_quit;
-      diner = same.diner;
-      failed = same.failed;
-      bell = same.bell ∙ ap (λ (b : SeenBell). b.degree) c.in-Ok.ensures.reported;
-      same_bell = same.same_bell ∙ ap (λ (b : SeenBell). b.identity) c.in-Ok.ensures.reported;
-      count = same.count;
-    }
+pub returns-in-Some-clause-timed : goal.returns-in-Some-clause-timed
+returns-in-Some-clause-timed g c = c.take_recalled.ensures.timed
 
-pub returns-in-Ok-clause-checks : goal.returns-in-Ok-clause-checks
-returns-in-Ok-clause-checks g c first are =
+pub returns-in-Some-clause-checks : goal.returns-in-Some-clause-checks
+returns-in-Some-clause-checks g c = c.take_recalled.ensures.checks
+
+-- ---- none does
+
+pub hear_and_take-requires-clause-running : goal.hear_and_take-requires-clause-running
+hear_and_take-requires-clause-running g c κs ls = c.requires.running
+
+pub hear_and_take-requires-clause-idle : goal.hear_and_take-requires-clause-idle
+hear_and_take-requires-clause-idle g c κs ls = c.requires.idle
+
+pub returns-in-None-clause-way : goal.returns-in-None-clause-way
+returns-in-None-clause-way g c = c.hear_and_take.ensures.way
+
+pub returns-in-None-clause-same : goal.returns-in-None-clause-same
+returns-in-None-clause-same g c = same_from c.recall.new.put_off c.args.self.now c.hear_and_take.new.self c.hear_and_take.ensures.same
+
+pub returns-in-None-clause-timed : goal.returns-in-None-clause-timed
+returns-in-None-clause-timed g c = c.hear_and_take.ensures.timed
+
+pub returns-in-None-clause-checks : goal.returns-in-None-clause-checks
+returns-in-None-clause-checks g c = c.hear_and_take.ensures.checks
+
+-- ---- what the thread did
+
+pub hear_and_take-requires-clause-unfinished : goal.hear_and_take-requires-clause-unfinished
+hear_and_take-requires-clause-unfinished g c κs ls = c.requires.unfinished
+
+pub hear_and_take-requires-clause-none_matters : goal.hear_and_take-requires-clause-none_matters
+hear_and_take-requires-clause-none_matters g c κs ls plan state keeps stands =
+    let memo : Memo = memo_of c.args.self.now in
+    subst (λ (marks : List Bool). first_that_matters plan c.args.self.now.core.site state (record memo { put_off = marks }) ≡ None) (sym c.in-None.ensures.recalled) (c.recall.ensures.first plan state keeps stands ∙ c.in-None.is)
+
+pub returns-in-Some-clause-works : goal.returns-in-Some-clause-works
+returns-in-Some-clause-works g c plan given was =
     let old = c.args.self.now in
-    c.take_where_rung.ensures.checks first
-    (checks_as first old.manner old.bell.found_empty c.wait_for.new.self.found_empty old.clock.events old.journal.items (ap (λ (b : SeenBell). b.found_empty) c.in-Ok.ensures.reported) are)
+    let running = was.0 in
+    let memo : Memo = memo_of old in
+    c.take_recalled.ensures.works plan given (
+      running,
+      memo,
+      was.1,
+      c.recall.ensures.first plan running.state running.has.keeps running.has.stands ∙ c.in-Some.is,
+      ap (λ (marks : List Bool). record memo { put_off = marks }) c.in-Some.ensures.recalled,
+    )
 
-pub returns-in-Err-clause-same : goal.returns-in-Err-clause-same
-returns-in-Err-clause-same g c = record {
-  manner = refl;
-  site = refl;
-  due = refl;
-  ate = refl;
-  resigns = refl;
-  must_quit = refl;
-  has_quit = refl;
-  diner = refl;
-  failed = refl;
-  bell = ap (λ (b : SeenBell). b.degree) c.in-Err.ensures.reported;
-  same_bell = ap (λ (b : SeenBell). b.identity) c.in-Err.ensures.reported;
-  count = refl;
-}
-
-pub returns-in-Err-clause-checks : goal.returns-in-Err-clause-checks
-returns-in-Err-clause-checks g c first are =
+pub returns-in-None-clause-works : goal.returns-in-None-clause-works
+returns-in-None-clause-works g c plan given was =
     let old = c.args.self.now in
-    checks_as first old.manner old.bell.found_empty c.wait_for.new.self.found_empty old.clock.events old.journal.items (ap (λ (b : SeenBell). b.found_empty) c.in-Err.ensures.reported) are
-
-pub returns-in-Ok-clause-timed : goal.returns-in-Ok-clause-timed
-returns-in-Ok-clause-timed g c = c.take_where_rung.ensures.timed
-
-pub returns-in-Err-clause-timed : goal.returns-in-Err-clause-timed
-returns-in-Err-clause-timed g c = tt
+    let memo : Memo = memo_of old in
+    c.hear_and_take.ensures.works plan given (was.0, subst (λ (marks : List Bool). HasWorked old.manner plan old.core.site old.journal.items was.0.state (record memo { put_off = marks }) old.log.deeds) (sym c.in-None.ensures.recalled) was.1)

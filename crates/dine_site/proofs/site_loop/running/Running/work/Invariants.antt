@@ -1,4 +1,5 @@
-use Rattle.dine_site.specs.private.Running.{ChecksOn, IsRunning, IsTimedRun, Proceeds}
+use Rattle.std.proofs.Common.{Ok}
+use Rattle.dine_site.specs.private.Running.{ChecksOn, IsRunning, IsTimedRun, Proceeds, IsWorking, WorksOn}
 use Rattle.dine_site.proofs.site_loop.running.Running.work.Given as goal
 
 abbrev pub invariant-loop : goal.invariant-loop
@@ -6,4 +7,5 @@ invariant-loop g l = record {
   proceeds : Proceeds g.L.Lane g.D.Diner IsRunning l.initial.self l.self;
   timed : IsTimedRun g.L.Lane l.initial.self → IsTimedRun g.L.Lane l.self;
   checks : ChecksOn l.initial.self l.self;
+  works : WorksOn g.L.Lane IsWorking (Ok tt) l.initial.self l.self;
 }

@@ -1,0 +1,174 @@
+// Runs that are open: tasks arrive before they start and while they go on.
+use crate::asserts::{holds, same};
+use crate::plans::all_resigning;
+use dine_run::{
+    Executor, JobsDone, Place, Plan, SiteId, SubmitError, Table, Task, TicketError, Worker,
+    run_open, run_open_with,
+};
+use std::alloc::Global;
+use std::process::Abort;
+use std::rt::Clock;
+use std::sync::Wait;
+use std::test::Fail;
+use std::thread;
+use std::thread::Threads;
+use std::time::Duration;
+
+const SITES: u32 = 6;
+
+// Adds one at the first place of its site, and returns what is there then.
+#[derive(Drop)]
+struct AddOne {}
+
+impl Task<u64, u64> for AddOne {
+    fn run(self, table: &Table<'_, u64>) -> u64 {
+        match table.open(Place(0)) {
+            Ok(mut value) => {
+                *value = value.saturating_add(1);
+                *value
+            }
+            Err(_) => 0,
+        }
+    }
+}
+
+// Executes a task at each site.
+fn executes_each<R: Wait + Abort>(rt: &R, executor: &Executor<AddOne, u64>) {
+    for site in 0..SITES {
+        let taken = executor.execute(rt, SiteId(site), AddOne {});
+        holds(rt, taken.is_ok());
+    }
+}
+
+fn ran_open<R: Threads + Wait + Abort + Copy + Drop + Send + 'static>(
+    rt: R,
+    alloc: Global,
+    plan: &Plan,
+    executor: &Executor<AddOne, u64>,
+) -> JobsDone<u64, Worker<AddOne, u64, R>> {
+    let values = Vec::from_elem(alloc, 0u64, plan.edges() as usize).expect(&rt, "memory");
+    match run_open(&rt, alloc, plan, values, executor) {
+        Ok(done) => done,
+        Err(_) => panic!(&rt; "the run failed"),
+    }
+}
+
+// The sum of the values, and how many calls went well and failed.
+fn counts<R: Wait + Drop + Send>(done: &JobsDone<u64, Worker<AddOne, u64, R>>) -> (u64, u64, u64) {
+    let (mut sum, mut well, mut failed) = (0u64, 0u64, 0u64);
+    for value in done.values.iter() {
+        sum = sum.saturating_add(value.value);
+    }
+    for site in done.sites.iter() {
+        for call in site.calls() {
+            well = well.saturating_add(u64::from(call.ok));
+            failed = failed.saturating_add(u64::from(!call.ok));
+        }
+    }
+    (sum, well, failed)
+}
+
+fn opens<R: Threads + Wait + Abort + Clock + Copy + Drop + Send + 'static>(rt: R, alloc: Global) {
+    let plan = all_resigning(&rt, alloc, SITES, 10);
+    let executor = Executor::open(alloc, &plan).expect(&rt, "memory");
+    executes_each(&rt, &executor);
+    let theirs = executor.share().expect(&rt, "memory");
+    let clerk = thread::spawn(&rt, move || {
+        for _ in 0..3 {
+            thread::sleep(&rt, Duration::from_millis(20));
+            executes_each(&rt, &theirs);
+        }
+        thread::sleep(&rt, Duration::from_millis(20));
+        theirs.close(&rt);
+    });
+    let done = ran_open(rt, alloc, &plan, &executor);
+    if let Ok(clerk) = clerk {
+        clerk.join(&rt);
+    }
+    same(&rt, &counts(&done), &(24, 24, 6));
+    same(&rt, &done.found_open, &0);
+}
+
+fn closes<R: Threads + Wait + Abort + Copy + Drop + Send + 'static>(rt: R, alloc: Global) {
+    let plan = all_resigning(&rt, alloc, SITES, 2);
+    let executor = Executor::open(alloc, &plan).expect(&rt, "memory");
+    executes_each(&rt, &executor);
+    let stranger = executor.execute(&rt, SiteId(SITES), AddOne {});
+    holds(&rt, matches!(stranger, Err(SubmitError::NoSite(_))));
+    let second = executor.execute(&rt, SiteId(0), AddOne {});
+    holds(&rt, second.is_ok());
+    let third = executor.execute(&rt, SiteId(0), AddOne {});
+    holds(&rt, matches!(third, Err(SubmitError::Full(_))));
+    executor.close(&rt);
+    let late = executor.execute(&rt, SiteId(1), AddOne {});
+    holds(&rt, matches!(late, Err(SubmitError::Closed(_))));
+    let done = ran_open(rt, alloc, &plan, &executor);
+    same(&rt, &counts(&done), &(7, 7, 5));
+}
+
+// A site does its tasks in the order in which they were submitted: each ticket has one more. A ticket of a task that
+// was taken back has nothing.
+fn answers<R: Threads + Wait + Abort + Clock + Copy + Drop + Send + 'static>(rt: R, alloc: Global) {
+    let plan = all_resigning(&rt, alloc, 2, 10);
+    let executor = Executor::open(alloc, &plan).expect(&rt, "memory");
+    let theirs = executor.share().expect(&rt, "memory");
+    let clerk = thread::spawn(&rt, move || {
+        let mut got = [0u64; 4];
+        for slot in got.iter_mut() {
+            let ticket = theirs.submit(&rt, alloc, SiteId(0), AddOne {});
+            if let Ok(ticket) = ticket {
+                *slot = ticket.wait(&rt).unwrap_or(0);
+            }
+        }
+        theirs.close(&rt);
+        got
+    });
+    let values = Vec::from_elem(alloc, 0u64, plan.edges() as usize).expect(&rt, "memory");
+    let done = run_open_with(&rt, alloc, &plan, values, &executor, 1);
+    holds(&rt, done.is_ok());
+    if let Ok(clerk) = clerk {
+        same(&rt, &clerk.join(&rt), &[1, 2, 3, 4]);
+    }
+}
+
+fn stops<R: Threads + Wait + Abort + Clock + Copy + Drop + Send + 'static>(rt: R, alloc: Global) {
+    let plan = all_resigning(&rt, alloc, 2, 10);
+    let executor = Executor::open(alloc, &plan).expect(&rt, "memory");
+    let Ok(ticket) = executor.submit(&rt, alloc, SiteId(1), AddOne {}) else {
+        panic!(&rt; "no ticket");
+    };
+    let pending = ticket.try_wait(&rt);
+    holds(&rt, matches!(pending, Err(TicketError::Pending)));
+    let late = ticket.wait_timeout(&rt, Duration::from_millis(1));
+    holds(&rt, matches!(late, Err(TicketError::Pending)));
+    let back = executor.stop(&rt, alloc).expect(&rt, "memory");
+    same(&rt, &back.len(), &1);
+    let gone = ticket.wait(&rt);
+    holds(&rt, matches!(gone, Err(TicketError::Gone)));
+    let done = ran_open(rt, alloc, &plan, &executor);
+    same(&rt, &counts(&done), &(0, 0, 2));
+}
+
+#[test]
+fn tasks_arrive_before_a_run_and_while_it_goes_on(rt: HostRuntime) -> Result<(), Fail> {
+    opens(rt, rt.alloc());
+    Ok(())
+}
+
+#[test]
+fn executors_refuse_what_is_late_or_too_much(rt: HostRuntime) -> Result<(), Fail> {
+    closes(rt, rt.alloc());
+    Ok(())
+}
+
+#[test]
+fn tickets_have_what_tasks_return_in_order(rt: HostRuntime) -> Result<(), Fail> {
+    answers(rt, rt.alloc());
+    Ok(())
+}
+
+#[test]
+fn a_stopped_executor_hands_back_what_has_not_begun(rt: HostRuntime) -> Result<(), Fail> {
+    stops(rt, rt.alloc());
+    Ok(())
+}

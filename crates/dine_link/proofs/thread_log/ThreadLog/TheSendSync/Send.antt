@@ -1,0 +1,6 @@
+-- A thread log owns nothing, so it may go to another thread.
+use denote.Param.Send.{IsSend, owning_send, sendable}
+use Rattle.dine_link.specs.contracts.thread_log.ThreadLog.{the_row, the_type}
+
+pub send : IsSend the_row
+send = owning_send the_type (search sendable) (λ d. tt) (λ k x w. tt)

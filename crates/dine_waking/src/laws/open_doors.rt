@@ -1,0 +1,35 @@
+// Laws on sites that are on call: their jobs come from outside while a run goes on.
+
+ghost use Rattle.std.specs.Prelude.{◌≡◌, ◌<◌, ℕ, List, true};
+ghost use Rattle.dine_graph.specs.Plan.{IsPlan, SeenPlan, site_count};
+ghost use Rattle.dine_rules.specs.Local.{is_thinking};
+ghost use Rattle.dine_rules.specs.World.{IsComplete, Reaches, WorldState, state_of};
+ghost use Rattle.dine_rules.specs.declared.events.Event.{Event};
+ghost use Rattle.dine_waking.specs.Doors.{AllRestAtDoors, Door, IsReachedDoor, Sleeps, is_called};
+ghost use Rattle.dine_waking.specs.Resting.{AllRestWell};
+
+/// Nobody waits for a site that thinks. Take a world that events reach from the start. If each of its sites has
+/// finished, or rests, although it may have jobs left, then all sites think. So none is hungry, and none eats: each
+/// site that was called to a job has done it.
+pub fn worlds_at_rest_have_served()
+    ensures thinks { (plan : SeenPlan) (events : List Event) (world : WorldState) (s : ℕ) → IsPlan plan
+        → Reaches plan events world → AllRestWell plan world → s < site_count plan
+        → is_thinking (state_of world s).phase ≡ true }
+{}
+
+/// A site that is called, to a task or to its end, does not sleep, unless somebody outside has yet to ring for it.
+pub fn called_sites_are_rung_for()
+    ensures rung { (door : Door) → IsReachedDoor door → door.thinker ≡ Sleeps → is_called door ≡ true
+        → 0 < door.owed }
+{}
+
+/// If all doors are closed at last, nobody sleeps for ever. Take a world that events reach from the start, in which
+/// each site has finished or rests at its door. If each door is closed, and nobody outside has yet to ring, the world
+/// is complete.
+pub fn closed_doors_end_the_run()
+    ensures complete { (plan : SeenPlan) (events : List Event) (world : WorldState) (doors : ℕ → Door) → IsPlan plan
+        → Reaches plan events world → AllRestAtDoors plan world doors
+        → ((s : ℕ) → s < site_count plan → IsReachedDoor (doors s))
+        → ((s : ℕ) → s < site_count plan → (doors s).closed ≡ true)
+        → ((s : ℕ) → s < site_count plan → (doors s).owed ≡ 0) → IsComplete plan world }
+{}

@@ -1,0 +1,115 @@
+"""Tries what a caller of the library sees, by tests/library_calls.rt.in, which 'rt try' builds without a proof: when a
+watch is told, what is counted and timed meanwhile, what a run that is cancelled prints, how the fault of a run is
+printed, how a value is opened twice, and how a builder refuses what is far too large."""
+import pytest
+from calls import add_program
+from trying import answer_of, copy_crates, text_of
+
+# The program runs once, for all tests.
+pytestmark = [pytest.mark.early, pytest.mark.slow, pytest.mark.timeout(1200), pytest.mark.xdist_group("library calls")]
+
+ONE_JOB = """hungry 0 1
+begin 0 1
+job 1
+end 0 1 true
+"""
+TWO_JOBS = f"""{ONE_JOB}hungry 0 2
+begin 0 2
+job 2
+end 0 2 false
+"""
+THREE_JOBS = f"""{TWO_JOBS}hungry 0 3
+begin 0 3
+job 3
+end 0 3 true
+"""
+PARTS = {
+    # A watch is told of the begin before the job, and of the end behind it.
+    "told": THREE_JOBS,
+    # The second job fails. The site is not hungry again.
+    "resigns": TWO_JOBS,
+    "no jobs": "",
+    # A watch around the job of a site that the plan does not have.
+    "no site": "",
+    # The number of meals that each job reads, while it is not counted itself.
+    "meals": """job 1: 0
+job 2: 1
+job 3: 2
+at the end: 3
+""",
+    # Reading n of the clock is n * n milliseconds. Three waits take six readings, so 3, 7 and 11 milliseconds. If a
+    # reading fails, which is named first, its wait is left out. If that is the first reading of a wait, there is no
+    # second one: the wait that follows is from the next reading.
+    "waits": """0: 3 waits, 21000000 ns, the longest 11000000 ns
+1: 2 waits, 14000000 ns, the longest 9000000 ns
+2: 2 waits, 18000000 ns, the longest 11000000 ns
+3: 2 waits, 12000000 ns, the longest 9000000 ns
+4: 2 waits, 14000000 ns, the longest 11000000 ns
+5: 2 waits, 10000000 ns, the longest 7000000 ns
+6: 2 waits, 10000000 ns, the longest 7000000 ns
+7: 3 waits, 21000000 ns, the longest 11000000 ns
+""",
+    # Job 2 fails, and job 3 sets the flag, after which none is run.
+    "cancelled": """alone begins 1
+job 1, cancelled: false
+alone ends 1
+alone begins 2
+job 2, cancelled: false
+alone fails 2
+alone begins 3
+job 3, cancelled: false
+alone ends 3
+alone begins 4
+alone fails 4
+alone begins 5
+alone fails 5
+failure 2: the job failed
+failure 4: cancelled
+failure 5: cancelled
+cancelled: true, true
+""",
+    # Job 1 sets the flag. The site resigns when job 2 is refused.
+    "cancelled, resigns": """alone begins 1
+job 1, cancelled: false
+alone ends 1
+alone begins 2
+alone fails 2
+failure 2: cancelled
+cancelled: true, true
+""",
+    # The words of a fault, and its debug output.
+    "fault": "run refused: jobs given 0, wanted 1: JobsDiffer { given: 0, sites: 1 }\n",
+    # A value that is open is not opened again, and what was refused so is counted.
+    "opened": """job 1: true, again: false
+job 2: true, again: false
+found open: 2
+""",
+    # 10,000 sites; all 2,016 pairs of 64 sites; and then 10,000 edges between sites that the first edge joins.
+    "built": """9 TooManySites
+15 TooManyEdges
+14 EdgeTwice at edge 2016
+""",
+}
+
+
+@pytest.fixture(scope="module")
+def printed(tmp_path_factory):
+    """Returns what the program prints of each part."""
+    folder = tmp_path_factory.mktemp("calls")
+    copy_crates("dine_run", folder)
+    line = "may_wait=1: dine_run anyhow"
+    crate = add_program("library_calls", line, text_of("tests/library_calls.rt.in"), folder)
+    ran = answer_of(["try", "--seconds", "600"], "rt", None, cwd=crate)
+    assert ran.status == 0, ran.error
+    # After the output of the program, rt says how it ended.
+    parts = ("\n" + ran.output.partition("checked: ")[0]).split("\n# ")[1:]
+    return dict(part.partition("\n")[::2] for part in parts)
+
+
+def test_parts(printed):
+    assert list(printed) == list(PARTS)
+
+
+@pytest.mark.parametrize("part", PARTS)
+def test_part(printed, part):
+    assert printed[part].rstrip("\n") == PARTS[part].rstrip("\n")
