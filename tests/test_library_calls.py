@@ -6,7 +6,8 @@ from calls import add_program
 from trying import answer_of, copy_crates, text_of
 
 # The program runs once, for all tests.
-pytestmark = [pytest.mark.early, pytest.mark.slow, pytest.mark.timeout(1200), pytest.mark.xdist_group("library calls")]
+pytestmark = [pytest.mark.kit, pytest.mark.early, pytest.mark.slow, pytest.mark.timeout(1200),
+              pytest.mark.xdist_group("library calls")]
 
 ONE_JOB = """hungry 0 1
 begin 0 1
