@@ -1,0 +1,97 @@
+// The parker of a bell, and what unparks it. Each counts how often it did so, in proofs alone.
+ghost use Rattle.std.specs.Prelude.{◌≡◌, ◌+◌, ⊤, IfOk};
+ghost use Rattle.std.specs.Arc.{arc_value};
+ghost use Rattle.crossbeam_utils.specs.Token.{parker_view};
+
+use crossbeam_utils::rule::{Outcome, Protocol};
+use crossbeam_utils::sync::parker::{Pass, RuledParker, RuledUnparker};
+use std::alloc::{AllocError, Global};
+use std::marker::Model;
+use std::sync::Wait;
+
+// The rule: a pass knows how often it parked or unparked so far.
+pub struct Counted;
+
+impl Protocol<bool, u64> for Counted {
+    ghost holds = { λ token views. ⊤ };
+
+    ghost first = { 0 };
+}
+
+// A pass parks, or unparks, once more.
+pub struct OnceMore;
+
+impl Outcome<bool, u64> for OnceMore {
+    ghost then = { λ before token_before token_after after. after ≡ before + 1 };
+}
+
+// By it the thread of a bell parks. Contracts see how often it did.
+#[derive(Drop)]
+pub struct CountedParker {
+    parker: RuledParker<u64, Counted>,
+    pass: Pass<u64>,
+}
+
+impl Model for CountedParker {
+    ghost use Rattle.std.specs.Prelude.{ℕ};
+    ghost use Rattle.dine_link.specs.private.Parkers.{parked, IsParker};
+
+    ghost Value = { ℕ };
+
+    ghost view = { parked };
+
+    ghost invariant = { IsParker };
+}
+
+// By it a ringer lets the thread of a bell go on that is parked, or that parks next. Contracts see how often it did.
+#[derive(Drop)]
+pub struct CountedUnparker {
+    unparker: RuledUnparker<u64, Counted>,
+    pass: Pass<u64>,
+}
+
+impl Model for CountedUnparker {
+    ghost use Rattle.std.specs.Prelude.{ℕ};
+    ghost use Rattle.dine_link.specs.private.Parkers.{unparked, IsUnparker};
+
+    ghost Value = { ℕ };
+
+    ghost view = { unparked };
+
+    ghost invariant = { IsUnparker };
+}
+
+impl CountedParker {
+    // Returns one that has not parked yet.
+    pub fn open(alloc: Global) -> Result<CountedParker, AllocError>
+        ensures { IfOk result (λ parker. parker ≡ 0) }
+    {
+        let (parker, pass) = RuledParker::ruled(alloc)?;
+        Ok(CountedParker { parker, pass })
+    }
+
+    // Returns an unparker of this parker, which has not unparked yet.
+    pub fn unparker(&self) -> Result<CountedUnparker, AllocError>
+        ensures { IfOk result (λ unparker. unparker ≡ 0) }
+    {
+        let unparker = self.parker.unparker().clone()?;
+        let pass = unparker.pass();
+        Ok(CountedUnparker { unparker, pass })
+    }
+
+    // Waits until an unparker has unparked since it last parked.
+    pub fn park<R: Wait>(&mut self, rt: &R)
+        ensures { self.new ≡ self.old + 1 }
+    {
+        self.parker.park_as::<OnceMore, R>(rt, &mut self.pass);
+    }
+}
+
+impl CountedUnparker {
+    // Lets the thread go on that is parked, or that parks next.
+    pub fn unpark(&mut self)
+        ensures { self.new ≡ self.old + 1 }
+    {
+        self.unparker.unpark_as::<OnceMore>(&mut self.pass);
+    }
+}
