@@ -1,7 +1,6 @@
 // The parker of a bell, and what unparks it. Each counts how often it did so, in proofs alone.
 ghost use Rattle.std.specs.Prelude.{◌≡◌, ◌+◌, ⊤, IfOk};
-ghost use Rattle.std.specs.Arc.{arc_value};
-ghost use Rattle.crossbeam_utils.specs.Token.{parker_view};
+ghost use Rattle.dine_link.specs.private.Parkers.{once_more};
 
 use crossbeam_utils::rule::{Outcome, Protocol};
 use crossbeam_utils::sync::parker::{Pass, RuledParker, RuledUnparker};
@@ -25,7 +24,7 @@ impl Outcome<bool, u64> for OnceMore {
     ghost then = { λ before token_before token_after after. after ≡ before + 1 };
 }
 
-// By it the thread of a bell parks. Contracts see how often it did.
+// By it the thread of a bell parks. Contracts see which one it is, and how often it parked.
 #[derive(Drop)]
 pub struct CountedParker {
     parker: RuledParker<u64, Counted>,
@@ -33,17 +32,17 @@ pub struct CountedParker {
 }
 
 impl Model for CountedParker {
-    ghost use Rattle.std.specs.Prelude.{ℕ};
-    ghost use Rattle.dine_link.specs.private.Parkers.{parked, IsParker};
+    ghost use Rattle.dine_link.specs.private.Parkers.{SeenParker, seen_parker, IsParker};
 
-    ghost Value = { ℕ };
+    ghost Value = { SeenParker };
 
-    ghost view = { parked };
+    ghost view = { seen_parker };
 
     ghost invariant = { IsParker };
 }
 
-// By it a ringer lets the thread of a bell go on that is parked, or that parks next. Contracts see how often it did.
+// By it a ringer lets the thread go on that is parked at one parker, or that parks there next. Contracts see which
+// parker that is, and how often it unparked.
 #[derive(Drop)]
 pub struct CountedUnparker {
     unparker: RuledUnparker<u64, Counted>,
@@ -51,12 +50,11 @@ pub struct CountedUnparker {
 }
 
 impl Model for CountedUnparker {
-    ghost use Rattle.std.specs.Prelude.{ℕ};
-    ghost use Rattle.dine_link.specs.private.Parkers.{unparked, IsUnparker};
+    ghost use Rattle.dine_link.specs.private.Parkers.{SeenParker, seen_unparker, IsUnparker};
 
-    ghost Value = { ℕ };
+    ghost Value = { SeenParker };
 
-    ghost view = { unparked };
+    ghost view = { seen_unparker };
 
     ghost invariant = { IsUnparker };
 }
@@ -64,7 +62,7 @@ impl Model for CountedUnparker {
 impl CountedParker {
     // Returns one that has not parked yet.
     pub fn open(alloc: Global) -> Result<CountedParker, AllocError>
-        ensures { IfOk result (λ parker. parker ≡ 0) }
+        ensures { IfOk result (λ parker. parker.times ≡ 0) }
     {
         let (parker, pass) = RuledParker::ruled(alloc)?;
         Ok(CountedParker { parker, pass })
@@ -72,7 +70,7 @@ impl CountedParker {
 
     // Returns an unparker of this parker, which has not unparked yet.
     pub fn unparker(&self) -> Result<CountedUnparker, AllocError>
-        ensures { IfOk result (λ unparker. unparker ≡ 0) }
+        ensures { IfOk result (λ unparker. unparker ≡ record { parker = self.now.parker; times = 0 }) }
     {
         let unparker = self.parker.unparker().clone()?;
         let pass = unparker.pass();
@@ -81,7 +79,7 @@ impl CountedParker {
 
     // Waits until an unparker has unparked since it last parked.
     pub fn park<R: Wait>(&mut self, rt: &R)
-        ensures { self.new ≡ self.old + 1 }
+        ensures { self.new ≡ once_more self.old }
     {
         self.parker.park_as::<OnceMore, R>(rt, &mut self.pass);
     }
@@ -90,7 +88,7 @@ impl CountedParker {
 impl CountedUnparker {
     // Lets the thread go on that is parked, or that parks next.
     pub fn unpark(&mut self)
-        ensures { self.new ≡ self.old + 1 }
+        ensures { self.new ≡ once_more self.old }
     {
         self.unparker.unpark_as::<OnceMore>(&mut self.pass);
     }

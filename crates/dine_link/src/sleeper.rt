@@ -1,10 +1,11 @@
 // What a bell shares with its ringers: whether it sleeps, what wakes it, and how it is woken.
-ghost use Rattle.std.specs.Prelude.{◌≡◌, ◌+◌, ◌-◌, nat_le, ◌&&◌, ◌||◌, ◌++◌, ◌∷◌, [], not, true};
-ghost use Rattle.std.specs.Prelude.{MatchOption, false, if◌then◌else◌};
+ghost use Rattle.std.specs.Prelude.{◌≡◌, ◌-◌, nat_le, ◌&&◌, ◌||◌, ◌++◌, ◌∷◌, [], not, true};
+ghost use Rattle.std.specs.Prelude.{IfOk, MatchOption, false, if◌then◌else◌};
 ghost use Rattle.crossbeam_channel.specs.Claims.{view, IsSeatAt};
 ghost use Rattle.crossbeam_channel.specs.Ends.{receives_on};
 ghost use Rattle.crossbeam_channel.specs.Fifo.{Held, Learns, Pops};
 ghost use Rattle.dine_link.specs.Deeds.{waking};
+ghost use Rattle.dine_link.specs.private.Parkers.{once_more};
 ghost use Rattle.dine_link.specs.Waking.{seen_wants, wakes, still_wants};
 ghost use Rattle.dine_link.specs.declared.deed.Deed.TheVariants.{Woke};
 
@@ -150,7 +151,9 @@ impl Sleeper {
 
 impl Waker {
     // Returns the waker of one further ringer.
-    pub fn of(sleeper: &Arc<Sleeper, Global>, parker: &CountedParker) -> Result<Waker, AllocError> {
+    pub fn of(sleeper: &Arc<Sleeper, Global>, parker: &CountedParker) -> Result<Waker, AllocError>
+        ensures { IfOk result (λ waker. waker.unparker ≡ record { parker = parker.now.parker; times = 0 }) }
+    {
         let sleeper = Arc::try_clone(sleeper)?;
         let unparker = parker.unparker()?;
         sleeper.ringers.fetch_add(1, Ordering::SeqCst);
@@ -160,7 +163,8 @@ impl Waker {
     // If a ring has to wake the bell, lets its thread go on, and the log notes that, as done at this place.
     pub fn wake_if(&mut self, woken: bool, place: u32, log: &mut ThreadLog)
         ensures noted { log.new.deeds ≡ log.old.deeds ++ waking place woken }
-        ensures unparked { self.new.unparker ≡ self.old.unparker + (if woken then 1 else 0) }
+        ensures unparked { self.new.unparker
+            ≡ (if woken then once_more self.old.unparker else self.old.unparker) }
     {
         if woken {
             self.unpark(place, log);
@@ -170,7 +174,7 @@ impl Waker {
     // Lets the thread of a bell go on that was asleep, and the log notes it.
     fn unpark(&mut self, place: u32, log: &mut ThreadLog)
         ensures noted { log.new.deeds ≡ log.old.deeds ++ Woke place ∷ [] }
-        ensures unparked { self.new.unparker ≡ self.old.unparker + 1 }
+        ensures unparked { self.new.unparker ≡ once_more self.old.unparker }
     {
         self.unparker.unpark();
         *log = log.after(&Deed::Woke(place));
