@@ -278,8 +278,7 @@ fn next_ring_or_sleep<R: Wait>(
         (log.new.deeds ≡ log.old.deeds ++ Slept wants ∷ [])
         (λ _. log.new.deeds ≡ log.old.deeds) }
 {
-    let heard =
-        state.next_or_sleep::<Part, OfRingers, Hears, R>(rt, receiver, pass, wants, room);
+    let heard = state.next_or_sleep::<Part, OfRingers, Hears, R>(rt, receiver, pass, wants, room);
     if heard.is_none() {
         *log = log.after_sleep(&wants);
     }
