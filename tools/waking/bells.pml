@@ -390,7 +390,7 @@ go_on:
         sleeps there. A patient one, which is in PATIENT too, checks or does not; so this stands for any patience.
         of running.rt: Running::begin, Running::check_bell, Running::take_where_rung, Running::take_recalled, recall_before_meal, is_checking,
         skips_then
-        of bell.rt: Bell::check */
+        of bell.rt: Bell::check; of empty_checks.rt: EmptyChecks::next_or_add */
      if
      :: (POLITE & BIT(me)) == 0 || (PATIENT & BIT(me))
      :: (POLITE & BIT(me)) && (put_off & dirty) -> RECALL; goto heard_one

@@ -200,9 +200,11 @@ impl Bell {
             (log.new.deeds ≡ log.old.deeds ++ FoundNone ∷ [])
             (λ number. log.new.deeds ≡ log.old.deeds ++ Heard number ∷ []) }
     {
-        match self.next_ring(rt) {
+        let found = self
+            .empty_checks
+            .next_or_add::<Part, OfRingers, Hears, R>(rt, &self.receiver, &mut self.pass, clock);
+        match found {
             None => {
-                self.empty_checks = self.empty_checks.after(clock);
                 *log = log.after(&Deed::FoundNone);
                 None
             }
