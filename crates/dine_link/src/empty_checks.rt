@@ -1,4 +1,3 @@
-//! The checks of a bell that found no ring.
 ghost use Rattle.std.specs.Prelude.{◌≡◌, ℕ, List, [], ◌∷◌, ◌++◌, length, MatchOption};
 ghost use Rattle.std.specs.Borrow.{ftrue};
 ghost use Rattle.crossbeam_channel.specs.Claims.{view, IsSeatAt};
