@@ -77,6 +77,9 @@ export class LessonPanel {
       document.body.classList.remove("has-question");
       return;
     }
+    // A lesson begins at its head, however far the one before was scrolled.
+    if (this.lesson !== lesson) scrollTo(0, 0);
+    this.lesson = lesson;
     const moment = lesson.moments[place];
     const count = lesson.moments.length;
     setText(this.count, count ? WHERE[where](`${place + 1} of ${count}`) : "No moment yet");
