@@ -87,7 +87,10 @@ export class LessonPanel {
     this.back.hidden = !count || where === "there";
     const isPlayable = where === "there" && moment?.see !== false;
     if (this.showing) this.showing.hidden = !this.isChecked || !isPlayable;
-    this.whatIf.hidden = !count || where !== "there" || moment?.naive === "alone" || challengeOf(moment) !== null;
+    // Whoever has stopped does nothing more, which the rules do not know.
+    const hasStopped = / after$/.test(moment?.ways ?? "");
+    const isApart = hasStopped || moment?.naive === "alone" || challengeOf(moment) !== null;
+    this.whatIf.hidden = !count || where !== "there" || isApart;
     setOff(this.previous, place <= 0);
     setOff(this.next, place >= count - 1);
     this.ways.hidden = !moment?.ways;
