@@ -77,6 +77,9 @@ export class LessonPanel {
       document.body.classList.remove("has-question");
       return;
     }
+    // A lesson begins at its head, however far the one before was scrolled.
+    if (this.lesson !== lesson) scrollTo(0, 0);
+    this.lesson = lesson;
     const moment = lesson.moments[place];
     const count = lesson.moments.length;
     setText(this.count, count ? WHERE[where](`${place + 1} of ${count}`) : "No moment yet");
@@ -84,7 +87,10 @@ export class LessonPanel {
     this.back.hidden = !count || where === "there";
     const isPlayable = where === "there" && moment?.see !== false;
     if (this.showing) this.showing.hidden = !this.isChecked || !isPlayable;
-    this.whatIf.hidden = !count || where !== "there" || moment?.naive === "alone" || challengeOf(moment) !== null;
+    // Whoever has stopped does nothing more, which the rules do not know.
+    const hasStopped = / after$/.test(moment?.ways ?? "");
+    const isApart = hasStopped || moment?.naive === "alone" || challengeOf(moment) !== null;
+    this.whatIf.hidden = !count || where !== "there" || isApart;
     setOff(this.previous, place <= 0);
     setOff(this.next, place >= count - 1);
     this.ways.hidden = !moment?.ways;

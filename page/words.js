@@ -36,8 +36,8 @@ export function explainedElement(name, text) {
   const made = document.createElement(name);
   let word = null;
   for (const { text: part, key, colour, isFirst } of partsOf(text)) {
-    const [mark] = word && !colour && !isFirst ? /^[^\s\w]*/.exec(part) : [""];
-    // No line breaks between a word and the mark behind it.
+    // No line breaks between a word and the mark behind it. Of several words it may break, as they may not fit in one.
+    const [mark] = word && !colour && !isFirst && !/\s/.test(word.textContent) ? /^[^\s\w]*/.exec(part) : [""];
     if (mark) {
       const both = textElement("span", "", "unbroken");
       word.replaceWith(both);
