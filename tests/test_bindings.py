@@ -132,7 +132,8 @@ def test_c(place):
     """The programs in C: the last one is refused memory by its limit."""
     assert place.output(place.program("bindings/c/pair.c")).endswith("\nevents 22 of 22\n")
     assert place.output(place.program("bindings/c/misuse.c"))
-    assert place.output(place.program("bindings/c/statuses.c")) == "0 wrong\n"
+    for name in ("statuses", "built"):
+        assert place.output(place.program(f"bindings/c/{name}.c")) == "0 wrong\n"
     assert place.output("sh", "-c", 'ulimit -v 120000 && exec "$0"', place.program("bindings/c/memory.c"))
 
 

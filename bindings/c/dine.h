@@ -5,7 +5,8 @@
  *
  * HANDLES. A dine_handle is two words of your memory. It is closed if both are zero:
  *     dine_handle world = DINE_CLOSED_HANDLE;
- * An open call puts a plan, a world or a site into a closed handle. dine_close takes it out and frees its memory.
+ * An open call puts a plan, a world, a site or a builder into a closed handle. dine_close takes it out and frees its
+ * memory.
  *
  * ANSWERS. A number from 0 on is an answer. A number below 0 says why there is none, and then nothing has changed, and
  * nothing was written for you. A null pointer, a closed handle, a handle of another kind, a number out of range and
@@ -60,7 +61,7 @@ enum {
     DINE_LETTER_EDGE = -14,     /* the letter is of an edge that the site does not have */
     DINE_BREACH = -20           /* -21 to -26: the rules do not allow the letter now: after Close, Request out of turn,
                                    Fork out of turn, strange Fork, Done out of turn, closed early */
-    /* -101 to -120: the text is no plan; dine_plan_refusal writes the cause in words */
+    /* -101 to -120: the text is no plan, or the builder would have none; dine_plan_refusal writes the cause of a text */
 };
 enum { DINE_LETTER_MAX = 21 }; /* no letter has more bytes */
 
@@ -90,6 +91,30 @@ int64_t dine_plan_jobs(dine_handle *plan, uint32_t site);
 /* Returns the number of bytes of the name, at most 32; writes no more than out_len. */
 int64_t dine_plan_name(dine_handle *plan, uint32_t site, uint8_t *out, size_t out_len);
 int64_t dine_plan_ends(dine_handle *plan, uint32_t edge, dine_ends *out);
+
+/* A builder: a plan by calls, with no text. Sites and edges get numbers from 0, in the order in which they are added.
+ * The jobs of a site have numbers k from 1, which are their names. What no plan can have is refused at once, with the
+ * number of its cause in docs/FORMAT.md below -100, and then the builder is as it was. */
+int64_t dine_plan_builder_open(dine_handle *builder);
+/* Returns the number of the site. Refuses: -106 the name is not 1 to 32 letters of ASCII, digits, _ or -; -107 a site
+ * has it; -109 there are 64 sites; -110 it has more than 1,000 jobs. The first of these is the status. */
+int64_t dine_plan_builder_site(dine_handle *builder, const uint8_t *name, size_t name_len, uint32_t jobs);
+/* Returns the number of the edge, whose value is 0. Refuses: -112 a or b is no site; -113 both are one; -114 they have
+ * an edge; -115 there are 512 edges. The first of these is the status. */
+int64_t dine_plan_builder_edge(dine_handle *builder, uint32_t a, uint32_t b);
+/* The value before the first meal. Refuses: -119 it is above 1,000,000; DINE_NO_SUCH. */
+int64_t dine_plan_builder_value(dine_handle *builder, uint32_t edge, uint32_t value);
+/* The site drops the jobs that it has left after one failed. */
+int64_t dine_plan_builder_resign(dine_handle *builder, uint32_t site);
+/* Refuses: -111 there are more than 1,000,000 turns; DINE_NO_SUCH. */
+int64_t dine_plan_builder_turns(dine_handle *builder, uint32_t site, uint32_t k, uint32_t turns);
+int64_t dine_plan_builder_fails(dine_handle *builder, uint32_t site, uint32_t k);
+/* The meal of the job sets the value of each edge of the site to the amount, or adds the amount. Refuses: -118 the
+ * amount is above 1,000,000; DINE_NO_SUCH. */
+int64_t dine_plan_builder_act(dine_handle *builder, uint32_t site, uint32_t k, bool sets, uint32_t amount);
+/* Makes the plan, as dine_plan_open does of a text of version 2. The builder stays as it is, and may go on. Refuses:
+ * -108 there is no site. */
+int64_t dine_plan_builder_finish(dine_handle *builder, dine_handle *plan);
 
 /* A world: all sites of a plan in one thread. */
 int64_t dine_world_open(dine_handle *plan, dine_handle *world);

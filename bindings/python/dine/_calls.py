@@ -34,6 +34,15 @@ class Place(Structure):
 
 
 CALLS = {
+    "dine_plan_builder_open": [POINTER(Handle)],
+    "dine_plan_builder_site": [POINTER(Handle), POINTER(c_uint8), c_size_t, Number],
+    "dine_plan_builder_edge": [POINTER(Handle), Number, Number],
+    "dine_plan_builder_value": [POINTER(Handle), Number, Number],
+    "dine_plan_builder_resign": [POINTER(Handle), Number],
+    "dine_plan_builder_turns": [POINTER(Handle), Number, Number, Number],
+    "dine_plan_builder_fails": [POINTER(Handle), Number, Number],
+    "dine_plan_builder_act": [POINTER(Handle), Number, Number, c_bool, Number],
+    "dine_plan_builder_finish": [POINTER(Handle), POINTER(Handle)],
     "dine_plan_open": [POINTER(c_uint8), c_size_t, POINTER(Handle)],
     "dine_plan_refusal": [POINTER(c_uint8), c_size_t, POINTER(c_uint8), c_size_t],
     "dine_close": [POINTER(Handle)],

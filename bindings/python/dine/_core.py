@@ -84,8 +84,8 @@ _WORDS: dict[int, str] = {
 class DineError(Exception):
     """A call had no answer. ``status`` is the reason, a ``Status`` if it is not that a text is no plan, and an int.
 
-    If a text is no plan, ``cause`` is the cause, ``position`` the number of the site or edge that it is about, and
-    ``where`` says which: ``"site"``, ``"edge"`` or None.
+    If a text is no plan, or a builder or a table would have none, ``cause`` is the cause, ``position`` the number of the
+    site or edge that it is about, and ``where`` says which: ``"site"``, ``"edge"`` or None.
     """
 
     def __init__(self, status: int, refusal: str = "") -> None:
@@ -95,7 +95,7 @@ class DineError(Exception):
         at = refusal.partition(" at ")[2].split()
         self.where = at[0] if at else None
         self.position = int(at[1]) if at else None
-        words = f"the text is no plan: {refusal}" if refusal else _WORDS.get(self.status, "status")
+        words = f"no plan: {refusal}" if refusal else _WORDS.get(self.status, "status")
         super().__init__(f"{words} ({status})")
 
     def __reduce__(self) -> tuple[Any, ...]:
@@ -228,7 +228,8 @@ def _buffer(data: bytes) -> Any:
 
 
 class Plan(_Owner):
-    """A plan: sites with their jobs, and edges. It is read from a text of ``docs/FORMAT.md``, and can be pickled.
+    """A plan: sites with their jobs, and edges. It is read from a text of ``docs/FORMAT.md``, or built by a
+    ``PlanBuilder``, and can be pickled.
 
     >>> plan = Plan(PAIR)
     >>> plan.sites, plan.edges, plan.jobs(0)
@@ -239,8 +240,10 @@ class Plan(_Owner):
         super().__init__()
         if not isinstance(text, str):
             raise TypeError(f"the text of a plan is a str, not {type(text).__name__}")
-        #: The text that it was read from.
+        #: The text that it was read from. It is empty if the plan was built by calls.
         self.text = text
+        # The calls by which it was built.
+        self._built: tuple[Any, ...] = ()
         self._read: tuple[list[str], list[tuple[int, int]]] | None = None
         data = text.encode()
         status = _LIB.dine_plan_open(_buffer(data), len(data), byref(self._handle))
@@ -251,10 +254,15 @@ class Plan(_Owner):
         _answer(status)
 
     def __reduce__(self) -> tuple[Any, ...]:
+        if self._built:
+            from ._builder import rebuilt
+            return rebuilt, (self._built,)
         return Plan, (self.text,)
 
     def __copy__(self) -> Plan:
-        return Plan(self.text)
+        make, words = self.__reduce__()
+        plan: Plan = make(*words)
+        return plan
 
     def _shape(self) -> tuple[list[str], list[tuple[int, int]]]:
         with self._lock:

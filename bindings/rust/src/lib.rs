@@ -3,11 +3,13 @@
 //! - [`Table`] is a lock manager: workers share a value at each edge, and any thread eats for any worker.
 //! - [`World`] has all sites of a plan in one thread, and is stepped event by event.
 //! - [`Site`] is one site, whose letters are bytes: carry them to the neighbour, in order, by any means.
+//! - [`PlanBuilder`] makes the plan of a world or of sites by calls, and [`Plan::read`] of a text.
 //!
 //! The library is linked as `libdine.a`, or compiled from C: see `docs/BINDINGS.md`. Its rules are proved; this crate
 //! is only tested.
 #![warn(missing_docs)]
 
+mod builder;
 mod causes;
 mod open;
 mod run;
@@ -25,6 +27,7 @@ const CLOSE: u8 = 4;
 use std::cell::UnsafeCell;
 use std::fmt;
 
+pub use builder::PlanBuilder;
 pub use causes::Cause;
 pub use open::{AsyncMeal, Closed, LockFuture, Meal, OpenTable, Stay};
 pub use run::{Done, Watch};
@@ -46,7 +49,7 @@ pub enum Error {
     NoLetter(LetterFault),
     /// The rules do not allow this letter now, for this reason.
     Breach(Breach),
-    /// The text is no plan, or the workers and edges of a table are none, for this reason.
+    /// The text is no plan, or what a builder or a table would have is none, for this reason.
     NoPlan(Refusal),
     /// A worker or an edge is of another table.
     OtherTable,
@@ -92,7 +95,7 @@ pub enum Breach {
     ClosedEarly,
 }
 
-/// Why a text is no plan.
+/// Why a text, or what calls describe, is no plan.
 #[derive(Clone, Copy, Debug, PartialEq, Eq)]
 pub struct Refusal {
     /// The first cause that holds.
@@ -325,7 +328,7 @@ impl Drop for Handle {
     }
 }
 
-/// A plan: sites with their jobs, and edges.
+/// A plan: sites with their jobs, and edges. It is read from a text, or built by a [`PlanBuilder`].
 ///
 /// ```
 /// let plan = dine::Plan::read("version = 1\n[[site]]\nname = \"a\"\njobs = []\n")?;

@@ -60,7 +60,7 @@ fn open_site(alloc: Global, thing: &Thing, number: u32, handle: &mut Handle) -> 
 {
     match &thing.kept {
         Kept::Plan(plan) => open_site_of(alloc, plan, number, handle),
-        Kept::World(_) | Kept::Site(_) => OTHER_KIND,
+        Kept::World(_) | Kept::Site(_) | Kept::Builder(_) => OTHER_KIND,
     }
 }
 
@@ -105,7 +105,7 @@ pub extern "C" fn dine_raw_site_state(
     };
     let answer = match &thing.kept {
         Kept::Site(site) => site.state(out),
-        Kept::Plan(_) | Kept::World(_) => OTHER_KIND,
+        Kept::Plan(_) | Kept::World(_) | Kept::Builder(_) => OTHER_KIND,
     };
     handle.put(thing);
     answer
@@ -138,7 +138,7 @@ pub extern "C" fn dine_raw_site_place(
     };
     let answer = match &thing.kept {
         Kept::Site(site) => site.place_state(i, out),
-        Kept::Plan(_) | Kept::World(_) => OTHER_KIND,
+        Kept::Plan(_) | Kept::World(_) | Kept::Builder(_) => OTHER_KIND,
     };
     handle.put(thing);
     answer
@@ -158,7 +158,7 @@ pub extern "C" fn dine_raw_site_next(alloc: Global, handle: &mut Handle, out: &m
     };
     let answer = match &thing.kept {
         Kept::Site(site) => site.next(out),
-        Kept::Plan(_) | Kept::World(_) => OTHER_KIND,
+        Kept::Plan(_) | Kept::World(_) | Kept::Builder(_) => OTHER_KIND,
     };
     handle.put(thing);
     answer
@@ -174,7 +174,7 @@ pub extern "C" fn dine_raw_site_hungry(alloc: Global, handle: &mut Handle) -> i6
     };
     let answer = match &mut thing.kept {
         Kept::Site(site) => site.hungry(),
-        Kept::Plan(_) | Kept::World(_) => OTHER_KIND,
+        Kept::Plan(_) | Kept::World(_) | Kept::Builder(_) => OTHER_KIND,
     };
     handle.put(thing);
     answer
@@ -190,7 +190,7 @@ pub extern "C" fn dine_raw_site_quit(alloc: Global, handle: &mut Handle) -> i64
     };
     let answer = match &mut thing.kept {
         Kept::Site(site) => site.quit(),
-        Kept::Plan(_) | Kept::World(_) => OTHER_KIND,
+        Kept::Plan(_) | Kept::World(_) | Kept::Builder(_) => OTHER_KIND,
     };
     handle.put(thing);
     answer
@@ -213,7 +213,7 @@ pub extern "C" fn dine_raw_site_give(
     };
     let answer = match &mut thing.kept {
         Kept::Site(site) => site.put(PutKind::Give, i, out),
-        Kept::Plan(_) | Kept::World(_) => OTHER_KIND,
+        Kept::Plan(_) | Kept::World(_) | Kept::Builder(_) => OTHER_KIND,
     };
     handle.put(thing);
     answer
@@ -236,7 +236,7 @@ pub extern "C" fn dine_raw_site_ask(
     };
     let answer = match &mut thing.kept {
         Kept::Site(site) => site.put(PutKind::Ask, i, out),
-        Kept::Plan(_) | Kept::World(_) => OTHER_KIND,
+        Kept::Plan(_) | Kept::World(_) | Kept::Builder(_) => OTHER_KIND,
     };
     handle.put(thing);
     answer
@@ -259,7 +259,7 @@ pub extern "C" fn dine_raw_site_done(
     };
     let answer = match &mut thing.kept {
         Kept::Site(site) => site.put(PutKind::Done, i, out),
-        Kept::Plan(_) | Kept::World(_) => OTHER_KIND,
+        Kept::Plan(_) | Kept::World(_) | Kept::Builder(_) => OTHER_KIND,
     };
     handle.put(thing);
     answer
@@ -282,7 +282,7 @@ pub extern "C" fn dine_raw_site_shut(
     };
     let answer = match &mut thing.kept {
         Kept::Site(site) => site.put(PutKind::Close, i, out),
-        Kept::Plan(_) | Kept::World(_) => OTHER_KIND,
+        Kept::Plan(_) | Kept::World(_) | Kept::Builder(_) => OTHER_KIND,
     };
     handle.put(thing);
     answer
@@ -306,7 +306,7 @@ pub extern "C" fn dine_raw_site_break(
     };
     let answer = match &mut thing.kept {
         Kept::Site(site) => site.put(PutKind::Break, i, out),
-        Kept::Plan(_) | Kept::World(_) => OTHER_KIND,
+        Kept::Plan(_) | Kept::World(_) | Kept::Builder(_) => OTHER_KIND,
     };
     handle.put(thing);
     answer
@@ -330,7 +330,7 @@ pub extern "C" fn dine_raw_site_act(
     };
     let answer = match &mut thing.kept {
         Kept::Site(site) => site.act(*event, out),
-        Kept::Plan(_) | Kept::World(_) => OTHER_KIND,
+        Kept::Plan(_) | Kept::World(_) | Kept::Builder(_) => OTHER_KIND,
     };
     handle.put(thing);
     answer
@@ -346,7 +346,7 @@ pub extern "C" fn dine_raw_site_take(alloc: Global, handle: &mut Handle, letter:
     };
     let answer = match &mut thing.kept {
         Kept::Site(site) => site.take(alloc, letter),
-        Kept::Plan(_) | Kept::World(_) => OTHER_KIND,
+        Kept::Plan(_) | Kept::World(_) | Kept::Builder(_) => OTHER_KIND,
     };
     handle.put(thing);
     answer
@@ -362,7 +362,7 @@ pub extern "C" fn dine_raw_site_begin(alloc: Global, handle: &mut Handle) -> i64
     };
     let answer = match &mut thing.kept {
         Kept::Site(site) => site.begin(),
-        Kept::Plan(_) | Kept::World(_) => OTHER_KIND,
+        Kept::Plan(_) | Kept::World(_) | Kept::Builder(_) => OTHER_KIND,
     };
     handle.put(thing);
     answer
@@ -378,7 +378,7 @@ pub extern "C" fn dine_raw_site_end(alloc: Global, handle: &mut Handle, failed: 
     };
     let answer = match &mut thing.kept {
         Kept::Site(site) => site.end(failed),
-        Kept::Plan(_) | Kept::World(_) => OTHER_KIND,
+        Kept::Plan(_) | Kept::World(_) | Kept::Builder(_) => OTHER_KIND,
     };
     handle.put(thing);
     answer
@@ -404,7 +404,7 @@ pub extern "C" fn dine_raw_site_fork(
     };
     let answer = match &thing.kept {
         Kept::Site(site) => site.periods(i, out),
-        Kept::Plan(_) | Kept::World(_) => OTHER_KIND,
+        Kept::Plan(_) | Kept::World(_) | Kept::Builder(_) => OTHER_KIND,
     };
     handle.put(thing);
     answer
@@ -423,7 +423,7 @@ pub extern "C" fn dine_raw_site_value(alloc: Global, handle: &mut Handle, i: u32
     };
     let answer = match &thing.kept {
         Kept::Site(site) => site.value(i),
-        Kept::Plan(_) | Kept::World(_) => OTHER_KIND,
+        Kept::Plan(_) | Kept::World(_) | Kept::Builder(_) => OTHER_KIND,
     };
     handle.put(thing);
     answer
