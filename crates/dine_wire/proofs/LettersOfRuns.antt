@@ -33,10 +33,11 @@ long run bytes = le-leb 8 (length (to_le_bytes w64 run ++ bytes)) (omega arith)
 with_number : (run other : ℕ) (bytes : List ℕ) (b : Bool) → (run_of (to_le_bytes w64 other ++ bytes) == run) ≡ b → is_of_run run (to_le_bytes w64 other ++ bytes) ≡ b
 with_number run other bytes b is = ap (λ (x : Bool). x && (run_of (to_le_bytes w64 other ++ bytes) == run)) (long other bytes) ∙ is
 
+pub is_of_own : (run : ℕ) (note : Note) → run < 2 ^ 64 → is_of_run run (bytes_in_run run note) ≡ true
+is_of_own run note small = with_number run run (bytes_of note) true (eq-eqb _ run (run_of-letter run (bytes_of note) small))
+
 pub is_own : (run edge : ℕ) (l : Letter) → run < 2 ^ 64 → is_of_run run (letter_bytes run edge l) ≡ true
-is_own run edge l small =
-    let bytes : List ℕ = bytes_of (record { edge = edge; told = told_of l }) in
-    with_number run run bytes true (eq-eqb _ run (run_of-letter run bytes small))
+is_own run edge l small = is_of_own run (record { edge = edge; told = told_of l }) small
 
 pub is_of_other : (run other edge : ℕ) (l : Letter) → other < 2 ^ 64 → run ≢ other → is_of_run run (letter_bytes other edge l) ≡ false
 is_of_other run other edge l small differ =

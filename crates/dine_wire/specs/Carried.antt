@@ -62,17 +62,17 @@ abbrev pub GoOnFromKept : SeenPlan → ℕ → ℕ → Traffic → Type 0
 GoOnFromKept plan s edge traffic = (k : ℕ) (fork : SeenFork) → slice_get (forks_among traffic.taken) k ≡ Some fork
     → GoesOn plan (slice_get (kept_forks plan s edge traffic.put) k) fork
 
--- The end s took what arrived of its run, letter by letter in order; whatever else arrived, of other runs and of anybody,
--- it refused. What arrived of the run is the first of the bytes that the other end put, in order, and each Fork goes on
--- from the fork that the end kept. Nothing else is said of the Forks, and nothing of what is of other runs.
+-- The end s took what arrived of its run, letter by letter in order; what else arrived, from anybody, it refused. What
+-- arrived of the run is the first of the bytes that the other end put, in order, and each Fork goes on from the fork
+-- that the end kept. Nothing else is said of the Forks, and nothing of what is of other runs.
 pub record TakesByBytes (plan : SeenPlan) (run s edge : ℕ) (here there : Traffic) : Type 0 where
   pub arrived : List (List ℕ)
   pub takes : bytes_of_each run edge here.taken ≡ of_run run arrived
   pub comes : IsPrefix (of_run run arrived) (bytes_of_each run edge there.put)
   pub forks : GoOnFromKept plan s edge here
 
--- Two sites of one run at the two ends of an edge, in two processes. Each keeps its streams, and takes by bytes what the
--- other put.
+-- Two sites of one run at the two ends of an edge, in two processes. Each keeps its streams, and takes by bytes what
+-- the other put.
 pub record AreJoinedByBytes (plan : SeenPlan) (run s i other j : ℕ) (here there : LocalState) : Type 0 where
   pub is_plan : IsPlan plan
   pub ends : AreEndsOfEdge plan s i other j

@@ -25,8 +25,8 @@ abbrev pub of_run : ℕ → List (List ℕ) → List (List ℕ)
 of_run run arrived = filter (is_of_run run) arrived
 
 -- Why the bytes are those of no letter of the run. `OtherRun`: they begin with another number, whatever follows.
--- `Length`: there are fewer than eight; or they are of the run, and what follows is no note for its length. `Kind`: they
--- are of the run, and the byte that follows is no kind.
+-- `Length`: there are fewer than eight; or they are of the run, and what follows is no note for its length. `Kind`:
+-- they are of the run, and the byte that follows is no kind.
 abbrev pub IsNoLetter : ℕ → List ℕ → WireFault → Type 0
 IsNoLetter run bytes Length = (length bytes < 8) ⊎ ((is_of_run run bytes ≡ true) × IsNoNote (drop 8 bytes) Length)
 IsNoLetter run bytes Kind = (is_of_run run bytes ≡ true) × IsNoNote (drop 8 bytes) Kind

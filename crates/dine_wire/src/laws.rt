@@ -73,8 +73,8 @@ pub fn what_arrives_was_sent()
 
 /// A link that carries bytes carries letters. Suppose that two sites of one run, in two processes, keep the rules, and
 /// each takes what the bytes of the other gave it, and nothing of other runs. Then what each took is a prefix of what
-/// the other put: the same letters, with the whole forks. And the next letter goes on from the fork that is kept for it,
-/// so its bytes are never refused.
+/// the other put: the same letters, with the whole forks. And the next letter goes on from the fork that is kept for
+/// it, so its bytes are never refused.
 pub fn links_of_bytes_carry_letters()
     ensures linked { (plan : SeenPlan) (run s i other j : ℕ) (here there : LocalState)
         → AreJoinedByBytes plan run s i other j here there → AreLinked (traffic_at here i) (traffic_at there j) }
@@ -92,9 +92,9 @@ pub fn refused_bytes_are_closes()
         → letter ≡ Close }
 {}
 
-/// An end takes by bytes from the start on, as long as each letter is the one of its run that arrives with its bytes, and
-/// goes on from the fork that is kept for it. To put a letter changes nothing of that, nor does to refuse what is of
-/// another run.
+/// An end takes by bytes from the start on, as long as each letter is the one of its run that arrives with its bytes,
+/// and goes on from the fork that is kept for it. To put a letter changes nothing of that, nor does to refuse what is
+/// of another run.
 pub fn letters_are_taken_one_by_one()
     ensures start { (plan : SeenPlan) (s edge : ℕ) → GoOnFromKept plan s edge no_traffic }
     ensures put { (plan : SeenPlan) (s edge : ℕ) (traffic : Traffic) (letter : Letter)
@@ -126,9 +126,10 @@ pub fn the_last_fork_is_kept()
         → fork_for_next plan s (edge_at plan s i) (traffic_at state i) ≡ None }
 {}
 
-/// All sites of a plan in one run, each in a process, and their journals gathered at the end. The links are ordered, as in
-/// a world of one thread, whatever letters of other runs arrive. If no site still has to quit, all is done and taken, and each letter was taken later than it was put,
-/// then there is an order of the journals. What `order` of `dine_order` looks for exists.
+/// All sites of a plan in one run, each in a process, and their journals gathered at the end. The links are ordered, as
+/// in a world of one thread, whatever letters of other runs arrive. If no site still has to quit, all is done and
+/// taken, and each letter was taken later than it was put, then there is an order of the journals. What `order` of
+/// `dine_order` looks for exists.
 pub fn processes_have_an_order()
     ensures links { (plan : SeenPlan) (run : ℕ) (states : WorldState) → AreAllJoinedByBytes plan run states
         → LinksAreOrdered plan states }

@@ -29,8 +29,8 @@ pub fn put_letter(run: u64, note: Note, out: &mut [u8]) -> usize
 ///
 /// # Errors
 ///
-/// `OtherRun` if the bytes begin with the number of another run, whatever follows. `Length` if there are fewer than eight
-/// bytes, or if a note of the kind behind them has another number of bytes. `Kind` if the ninth byte is no kind.
+/// `OtherRun` if the bytes begin with the number of another run, whatever follows. `Length` if there are fewer than
+/// eight bytes, or if a note of the kind behind them has another number of bytes. `Kind` if the ninth byte is no kind.
 pub fn read_letter(run: u64, bytes: &[u8]) -> Result<Note, WireFault>
     ensures note { MatchResult result (λ note. bytes.now ≡ bytes_in_run run note)
         (λ _. (note : SeenNote) → bytes.now ≡ bytes_in_run run note → ⊥) }
