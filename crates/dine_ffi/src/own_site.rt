@@ -211,9 +211,10 @@ impl OwnSite {
         if self.shelf.len() <= i as usize {
             return NO_SUCH;
         }
+        let run = self.run();
         match put(&mut self.core, what, i) {
             Some(letter) => {
-                let len = put_letter(self.run, note_of(&letter, edge), out);
+                let len = put_letter(run, note_of(&letter, edge), out);
                 put_away(&mut self.shelf, i, letter);
                 len as i64
             }

@@ -29,7 +29,8 @@ returns-in_default c =
     let note = c.in-Ok.note in
     let in_bytes : IsInBytes note = search rules in
     let read : c.args.bytes.now ≡ bytes_in_run c.args.self.now.run note = c.in-Ok.ensures.note ∙ ap (λ (run : ℕ). bytes_in_run run note) c.run.ensures in
-    let small : c.args.self.now.run < 2 ^ 64 = search rules in
+    let small_there : c.run.result < 2 ^ 64 = search rules in
+    let small : c.args.self.now.run < 2 ^ 64 = subst (λ (run : ℕ). run < 2 ^ 64) c.run.ensures small_there in
     record {
       outcome = λ state is. (refl, other_edge_refuses c.args.bytes.now note c.args.self.now read in_bytes state is _ refl c.in_default.ensures);
       other_run = λ long other. absurd (of_own_run c.args.self.now.run note c.args.bytes.now small read other);
@@ -45,7 +46,8 @@ returns-in-Fork c =
     let place = c.in-Some.ensures.0 in
     let in_bytes : IsInBytes note = search rules in
     let read : c.args.bytes.now ≡ bytes_in_run c.args.self.now.run note = c.in-Ok.ensures.note ∙ ap (λ (run : ℕ). bytes_in_run run note) c.run.ensures in
-    let small : c.args.self.now.run < 2 ^ 64 = search rules in
+    let small_there : c.run.result < 2 ^ 64 = search rules in
+    let small : c.args.self.now.run < 2 ^ 64 = subst (λ (run : ℕ). run < 2 ^ 64) c.run.ensures small_there in
     let fits : SFits w64 r = search rules in
     subst (λ (r : ℤ). TakesOrRefuses c.args.bytes.now r old new) (sym (to_z-of_z w64 r fits)) (record {
       outcome = done_or r _ _
@@ -70,7 +72,8 @@ returns-in-Request c =
     let l = letter.Request c.open.result in
     let in_bytes : IsInBytes note = search rules in
     let read : c.args.bytes.now ≡ bytes_in_run c.args.self.now.run note = c.in-Ok.ensures.note ∙ ap (λ (run : ℕ). bytes_in_run run note) c.run.ensures in
-    let small : c.args.self.now.run < 2 ^ 64 = search rules in
+    let small_there : c.run.result < 2 ^ 64 = search rules in
+    let small : c.args.self.now.run < 2 ^ 64 = subst (λ (run : ℕ). run < 2 ^ 64) c.run.ensures small_there in
     let fits : SFits w64 r = search rules in
     subst (λ (r : ℤ). TakesOrRefuses c.args.bytes.now r old new) (sym (to_z-of_z w64 r fits)) (record {
       outcome = done_or r _ _
@@ -96,7 +99,8 @@ returns-in-Done c =
     let place = c.in-Some.ensures.0 in
     let in_bytes : IsInBytes note = search rules in
     let read : c.args.bytes.now ≡ bytes_in_run c.args.self.now.run note = c.in-Ok.ensures.note ∙ ap (λ (run : ℕ). bytes_in_run run note) c.run.ensures in
-    let small : c.args.self.now.run < 2 ^ 64 = search rules in
+    let small_there : c.run.result < 2 ^ 64 = search rules in
+    let small : c.args.self.now.run < 2 ^ 64 = subst (λ (run : ℕ). run < 2 ^ 64) c.run.ensures small_there in
     let fits : SFits w64 r = search rules in
     subst (λ (r : ℤ). TakesOrRefuses c.args.bytes.now r old new) (sym (to_z-of_z w64 r fits)) (record {
       outcome = done_or r _ _
@@ -121,7 +125,8 @@ returns-in-Close c =
     let place = c.in-Some.ensures.0 in
     let in_bytes : IsInBytes note = search rules in
     let read : c.args.bytes.now ≡ bytes_in_run c.args.self.now.run note = c.in-Ok.ensures.note ∙ ap (λ (run : ℕ). bytes_in_run run note) c.run.ensures in
-    let small : c.args.self.now.run < 2 ^ 64 = search rules in
+    let small_there : c.run.result < 2 ^ 64 = search rules in
+    let small : c.args.self.now.run < 2 ^ 64 = subst (λ (run : ℕ). run < 2 ^ 64) c.run.ensures small_there in
     let fits : SFits w64 r = search rules in
     subst (λ (r : ℤ). TakesOrRefuses c.args.bytes.now r old new) (sym (to_z-of_z w64 r fits)) (record {
       outcome = done_or r _ _
