@@ -1,13 +1,12 @@
 use mir.Syntax.{w64}
 use mir.Val.{hbits}
-use Rattle.std.proofs.Common.{rules, ◌≡◌, ◌<◌, ◌≤◌, ◌^◌, ◌++◌, ℕ, ℤ, List, drop, false, length, pos, refl, sym, ◌∙◌, ap, subst, arith}
+use Rattle.std.proofs.Common.{rules, ◌≡◌, ◌<◌, ◌≤◌, ◌^◌, ◌++◌, ℕ, ℤ, List, drop, false, length, pos, sym, ◌∙◌, ap, subst, arith}
 use Rattle.std.proofs.lemmas.Int.{to_z_pos}
-use Rattle.std.specs.Int.{to_le_bytes, w32}
 use Rattle.dine_rules.specs.Local.{edge_at, is_eating}
 use Rattle.dine_site_core.specs.Core.{SeenCore}
 use Rattle.dine_site_core.specs.Standing.{CorePuts}
 use Rattle.dine_wire.specs.Carried.{letter_bytes}
-use Rattle.dine_wire.specs.Notes.{bytes_with, told_of}
+use Rattle.dine_wire.specs.Notes.{told_of}
 use Rattle.dine_wire.specs.Runs.{bytes_in_run}
 use Rattle.dine_wire.specs.declared.note.Note.{Note}
 use Rattle.dine_wire.specs.declared.note.Told.{Told}
