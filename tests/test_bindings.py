@@ -233,7 +233,7 @@ def test_sites_of_the_page(place):
     loop = next(it for it in blocks("docs/BINDINGS.md") if it.startswith("from dine import Kind, Site"))
     Path(place.folder, "loop.py").write_text(loop, "utf-8")
     ran = "import queue, runpy, sys, threading; from dine import PAIR; inboxes = [queue.Queue(), queue.Queue()]\n"
-    ran += "def run(n): runpy.run_path('loop.py', {'text': PAIR, 'number': n, 'receive': inboxes[n].get, "
+    ran += "def run(n): runpy.run_path('loop.py', {'text': PAIR, 'number': n, 'random': 7, 'receive': inboxes[n].get, "
     ran += "'send': lambda to, letter: inboxes[to].put(letter), 'work': lambda: print('ate', n)})\n"
     ran += "threads = [threading.Thread(target=run, args=[n]) for n in (0, 1)]\n"
     ran += "[it.start() for it in threads]; [it.join(60) for it in threads]\n"

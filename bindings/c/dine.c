@@ -23,6 +23,7 @@ int64_t dine_raw_plan_jobs(dine_handle *handle, uint32_t site);
 int64_t dine_raw_plan_name(dine_handle *handle, uint32_t site, uint8_t *out, size_t out_len);
 int64_t dine_raw_plan_ends(dine_handle *handle, uint32_t edge, dine_ends *out);
 int64_t dine_raw_site_open(dine_handle *plan, uint32_t number, dine_handle *site);
+int64_t dine_raw_site_open_in(dine_handle *plan, uint32_t number, uint64_t run, dine_handle *site);
 int64_t dine_raw_site_state(dine_handle *handle, dine_site_now *out);
 int64_t dine_raw_site_place(dine_handle *handle, uint32_t i, dine_place *out);
 int64_t dine_raw_site_next(dine_handle *handle, dine_event *out);
@@ -196,6 +197,16 @@ int64_t dine_site_open(dine_handle *plan, uint32_t number, dine_handle *site) {
     if (plan == site)
         return DINE_SAME_HANDLE;
     return dine_raw_site_open(plan, number, site);
+}
+
+int64_t dine_site_open_in(dine_handle *plan, uint32_t number, uint64_t run, dine_handle *site) {
+    if (!plan)
+        return DINE_NULL;
+    if (!site)
+        return DINE_NULL;
+    if (plan == site)
+        return DINE_SAME_HANDLE;
+    return dine_raw_site_open_in(plan, number, run, site);
 }
 
 int64_t dine_site_state(dine_handle *handle, dine_site_now *out) {

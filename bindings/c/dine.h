@@ -26,10 +26,16 @@
  * and is not given back to the system. What is closed is used again, also in pieces of another size. A call copies its
  * arguments there, and returns DINE_MEMORY if they do not fit, whatever it is for.
  *
+ * RUNS. A letter begins with the number of its run. A site takes no letter of another run: it returns DINE_OTHER_RUN
+ * before anything else is checked. Without that a late letter of an older run would let two neighbours eat together. So
+ * open all sites of a run by dine_site_open_in with one number, and take another number for each run; see
+ * dine_run_number.
+ *
  * WHAT NO CALL CAN KNOW. A number of a site, an edge or a place that is out of range is refused. One of another plan
- * that is in range is taken as a number of this one. A letter is refused if its edge is none of the site's, or if the
- * fork that was kept does not explain it; a Request, a Done or a Close of another plan's edge with the same number is
- * taken. A letter tells how many meals its sender ate and the value of the edge, and nothing else is known of them.
+ * that is in range is taken as a number of this one. A letter of the run is refused if its edge is none of the site's,
+ * or if the fork that was kept does not explain it; a Request, a Done or a Close of another plan's edge with the same
+ * number is taken, if both runs have one number. A letter tells how many meals its sender ate and the value of the
+ * edge, and nothing else is known of them.
  */
 #ifndef DINE_H
 #define DINE_H
@@ -55,15 +61,22 @@ enum {
     DINE_OPEN_ALREADY = -8,     /* the handle to be opened is open */
     DINE_NULL = -9,             /* a pointer is null */
     DINE_SAME_HANDLE = -10,     /* two handles of one call are one */
-    DINE_LETTER_LENGTH = -11,   /* the bytes are no letter: none, or too few or too many for the kind that is first */
-    DINE_LETTER_KIND = -12,     /* the bytes are no letter: the first is no kind */
+    DINE_LETTER_LENGTH = -11,   /* the bytes are no letter: too few, or too few or too many for its kind */
+    DINE_LETTER_KIND = -12,     /* the bytes are no letter: the one behind the number of the run is no kind */
     DINE_LETTER_UNLAWFUL = -13, /* the other end cannot have done that with the fork */
     DINE_LETTER_EDGE = -14,     /* the letter is of an edge that the site does not have */
+    DINE_OTHER_RUN = -15,       /* the letter is of another run */
     DINE_BREACH = -20           /* -21 to -26: the rules do not allow the letter now: after Close, Request out of turn,
                                    Fork out of turn, strange Fork, Done out of turn, closed early */
     /* -101 to -120: the text is no plan, or the builder would have none; dine_plan_refusal writes the cause of a text */
 };
-enum { DINE_LETTER_MAX = 21 }; /* no letter has more bytes */
+/* No letter has more bytes. The first eight are the number of its run, the least byte first; one for its kind and four
+ * for its edge follow. */
+enum { DINE_LETTER_MAX = 29 };
+/* The edge that a letter names. */
+static inline uint32_t dine_letter_edge(const uint8_t *letter) {
+    return letter[9] | (uint32_t)letter[10] << 8 | (uint32_t)letter[11] << 16 | (uint32_t)letter[12] << 24;
+}
 
 typedef enum dine_kind {
     DINE_TAKE, DINE_GIVE, DINE_END, DINE_BEGIN, DINE_QUIT, DINE_HUNGRY, DINE_ASK, DINE_DONE, DINE_CLOSE
@@ -138,8 +151,20 @@ int64_t dine_world_fork(dine_handle *world, uint32_t edge, uint32_t *out, size_t
 int64_t dine_world_value(dine_handle *world, uint32_t edge);
 
 /* One site, whose letters are bytes that you carry to the neighbour, each once and in order. A call that puts a letter
- * returns the number of its bytes. */
+ * returns the number of its bytes. dine_site_open opens a site of the run 0. */
 int64_t dine_site_open(dine_handle *plan, uint32_t number, dine_handle *site);
+int64_t dine_site_open_in(dine_handle *plan, uint32_t number, uint64_t run, dine_handle *site);
+/* A number for a run of the plan with this text. `random` is drawn once for each run, and all processes of the run are
+ * told it. A process that has another text, or was told of another run, has another number, unless chance has it. It is
+ * FNV-1a of the eight bytes of `random`, the least first, and of the text: no defence against whoever means harm. */
+static inline uint64_t dine_run_number(const uint8_t *text, size_t text_len, uint64_t random) {
+    uint64_t sum = 0xcbf29ce484222325u;
+    for (size_t at = 0; at < 8 + text_len; at++) {
+        uint64_t byte = at < 8 ? random >> (8 * at) & 0xff : text[at - 8];
+        sum = (sum ^ byte) * 0x100000001b3u;
+    }
+    return sum;
+}
 int64_t dine_site_state(dine_handle *site, dine_site_now *out);
 int64_t dine_site_place(dine_handle *site, uint32_t i, dine_place *out);
 int64_t dine_site_next(dine_handle *site, dine_event *out);

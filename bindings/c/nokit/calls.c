@@ -161,6 +161,15 @@ int64_t dine_raw_site_open(dine_handle *plan, uint32_t number, dine_handle *site
     return end(&it, (int64_t)Z_dine_ffiZ_dine_raw_site_open(&module, plan_at, number, site_at));
 }
 
+int64_t dine_raw_site_open_in(dine_handle *plan, uint32_t number, uint64_t run, dine_handle *site) {
+    call it = begin();
+    u64 plan_at = lend_handle(&it, plan);
+    u64 site_at = lend_handle(&it, site);
+    if (!it.fits)
+        return end(&it, DINE_MEMORY);
+    return end(&it, (int64_t)Z_dine_ffiZ_dine_raw_site_open_in(&module, plan_at, number, run, site_at));
+}
+
 int64_t dine_raw_site_state(dine_handle *handle, dine_site_now *out) {
     call it = begin();
     u64 handle_at = lend_handle(&it, handle);

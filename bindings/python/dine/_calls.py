@@ -1,7 +1,7 @@
 """Written by tools/bindings from the exports of crates/dine_ffi: the calls of dine.h, for ctypes."""
 from __future__ import annotations
 
-from ctypes import CDLL, POINTER, Structure, c_bool, c_int64, c_size_t, c_uint8, c_uint32, c_void_p
+from ctypes import CDLL, POINTER, Structure, c_bool, c_int64, c_size_t, c_uint8, c_uint32, c_uint64, c_void_p
 from typing import Any
 
 
@@ -53,6 +53,7 @@ CALLS = {
     "dine_plan_name": [POINTER(Handle), Number, POINTER(c_uint8), c_size_t],
     "dine_plan_ends": [POINTER(Handle), Number, POINTER(Ends)],
     "dine_site_open": [POINTER(Handle), Number, POINTER(Handle)],
+    "dine_site_open_in": [POINTER(Handle), Number, c_uint64, POINTER(Handle)],
     "dine_site_state": [POINTER(Handle), POINTER(SiteState)],
     "dine_site_place": [POINTER(Handle), Number, POINTER(Place)],
     "dine_site_next": [POINTER(Handle), POINTER(Event)],

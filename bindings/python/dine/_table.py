@@ -15,7 +15,7 @@ from typing import Any, Callable, Iterable, Iterator, MutableMapping, NamedTuple
 
 from ._builder import PlanBuilder
 from ._causes import Cause
-from ._core import DineError, Event, Kind, Plan, Site, World
+from ._core import DineError, Event, Kind, Plan, Site, World, edge_of
 
 #: The meals that a site has at most. Once a site has eaten them, all sites are opened anew.
 MEALS = 1000
@@ -345,7 +345,7 @@ class OpenTable:
         todo: set[int] = set()
         while desk.inbox:
             letter = desk.inbox.popleft()
-            self._note(desk, Kind.TAKE, desk.where[int.from_bytes(letter[1:5], "little")])
+            self._note(desk, Kind.TAKE, desk.where[edge_of(letter)])
             desk.site.take(letter)
         while not desk.eats and (event := desk.site.next()):
             if event.kind is Kind.HUNGRY and is_open and not desk.queue:

@@ -129,6 +129,12 @@ extern "C" {
         number: u32,
         site: *mut Handle,
     ) -> i64;
+    pub fn dine_site_open_in(
+        plan: *mut Handle,
+        number: u32,
+        run: u64,
+        site: *mut Handle,
+    ) -> i64;
     pub fn dine_site_state(
         handle: *mut Handle,
         out: *mut SiteState,
