@@ -3,6 +3,7 @@
 from __future__ import annotations
 
 from ctypes import byref
+from operator import index
 from typing import Any, Iterable
 
 from ._causes import Cause
@@ -43,7 +44,7 @@ class PlanBuilder(_Owner):
     def _does(self, name: str, where: str, position: int, *words: Any) -> int:
         """Does a call, and notes it. A cause that is about a site or an edge is about this one."""
         call = getattr(_LIB, f"dine_plan_builder_{name}")
-        status = call(byref(self._handle), *self._passed(name, words))
+        status = call(byref(self._handle), *_passed(name, words))
         if status <= -101:
             cause = Cause(-100 - status)
             at = "" if cause in _OF_ALL else f" at {where} {position}"
@@ -53,19 +54,14 @@ class PlanBuilder(_Owner):
         self._done.append((name, *words))
         return int(status)
 
-    @staticmethod
-    def _passed(name: str, words: tuple[Any, ...]) -> Iterable[Any]:
-        if name != "site":
-            return words
-        data = words[0].encode("utf-8", "surrogatepass")
-        return (_buffer(data), len(data), words[1])
-
     def site(self, name: str, jobs: int) -> int:
         """Adds a site with a name of its own and this number of jobs, and returns its number.
 
         The causes: the name is not 1 to 32 letters of ASCII, digits, ``_`` or ``-``; an earlier site has it; there are
         64 sites; it has more than 1,000 jobs.
         """
+        if not isinstance(name, str):
+            raise TypeError(f"the name of a site is a str, not {type(name).__name__}")
         with self._lock:
             number = self._does("site", "site", self._sites, name, jobs)
             self._sites = number + 1
@@ -133,6 +129,14 @@ class PlanBuilder(_Owner):
             if self._is_closed:
                 return "<PlanBuilder: closed>"
             return f"<PlanBuilder: {self._sites} sites, {self._edges} edges>"
+
+
+def _passed(name: str, words: tuple[Any, ...]) -> Iterable[Any]:
+    """The arguments of a call: of a site its name as bytes, and how many there are."""
+    if name != "site":
+        return map(index, words)
+    data = words[0].encode("utf-8", "surrogatepass")
+    return _buffer(data), len(data), index(words[1])
 
 
 def rebuilt(done: Iterable[tuple[Any, ...]]) -> Plan:

@@ -108,8 +108,8 @@ _WORDS: dict[int, str] = {
 class DineError(Exception):
     """A call had no answer. ``status`` is the reason, a ``Status`` if it is not that a text is no plan, and an int.
 
-    If a text is no plan, or a builder or a table would have none, ``cause`` is the cause, ``position`` the number of the
-    site or edge that it is about, and ``where`` says which: ``"site"``, ``"edge"`` or None.
+    If a text is no plan, or what a builder or a table would have is none, ``cause`` is the cause, ``position`` the
+    number of the site or edge that it is about, and ``where`` says which: ``"site"``, ``"edge"`` or None.
     """
 
     def __init__(self, status: int, refusal: str = "") -> None:

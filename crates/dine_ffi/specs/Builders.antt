@@ -62,8 +62,8 @@ AddsEdgeOrRefuses a b result old new = IsDoneOr result
     ((new ≡ old) × ((result ≡ memory) ⊎ ((cause : PlanFault) × (refusal_of_edge a b old ≡ Some cause) × (result ≡ plan_status cause))))
 
 -- A call makes another draft of the one that there is, and returns 0. It does so if what it sets is no more than a plan
--- may have, and if what it changes is there. Else the draft stays as it is, and the call returns which of the two fails,
--- the first by this cause.
+-- may have, and if what it changes is there. Else the draft stays as it is, and the call returns that there is no such
+-- thing, or this cause if what it sets is too large.
 abbrev pub ChangesOrRefuses : Bool → PlanFault → Bool → Draft → ℤ → Draft → Draft → Type 0
 ChangesOrRefuses fits cause there changed result old new =
     (result ≡ (if fits then (if there then done else no_such) else plan_status cause)) × (new ≡ (if fits && there then changed else old))

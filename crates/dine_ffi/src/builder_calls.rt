@@ -159,8 +159,8 @@ pub extern "C" fn dine_raw_plan_builder_fails(
     answer
 }
 
-/// Sets what the meal of job `k` of a site, from 1, does to the value of each edge of the site: it sets the value to the
-/// amount, or adds the amount.
+/// Sets what the meal of job `k` of a site, from 1, does to the value of each edge of the site: it sets the value to
+/// the amount, or adds the amount.
 #[unsafe(no_mangle)]
 pub extern "C" fn dine_raw_plan_builder_act(
     alloc: Global,

@@ -1,4 +1,4 @@
-//! The proved rules for programs that are not Rattle: a plan, a world, one site, or a builder of plans, behind a handle that C holds.
+//! The proved rules for programs that are not Rattle: a plan, a world, a site or a builder, behind a handle of C.
 #![tactic(auto)]
 
 mod acts;
