@@ -13,8 +13,9 @@ import threading
 from collections import deque
 from typing import Any, Callable, Iterable, Iterator, MutableMapping, NamedTuple
 
+from ._builder import PlanBuilder
 from ._causes import Cause
-from ._core import DineError, Event, Kind, Plan, Site, World
+from ._core import DineError, Event, Kind, Plan, Site, World, edge_of
 
 #: The meals that a site has at most. Once a site has eaten them, all sites are opened anew.
 MEALS = 1000
@@ -110,13 +111,19 @@ class Table:
         self._has_journals = True
         return self
 
-    def _text(self, meals: Iterable[int], fails: Iterable[int]) -> str:
-        """The plan: the number of jobs of each site, and which of them fails, 0 if none."""
-        text = "version = 2\n"
-        for name, count, bad in zip(self.workers, meals, fails):
-            jobs = ", ".join('{ name = "x"%s }' % (", fails = true" * (k == bad)) for k in range(1, count + 1))
-            text += f'[[site]]\nname = "{name}"\njobs = [{jobs}]\non_fault = "resign"\n'
-        return text + "".join(f'[[edge]]\nends = ["{a}", "{b}"]\n' for a, b, _ in self.edges)
+    def _plan(self, meals: Iterable[int], fails: Iterable[int]) -> Plan:
+        """The plan, with the number of jobs of each site, and which of them fails, 0 if none. A site with jobs left may
+        give them up after one that fails."""
+        with PlanBuilder() as builder:
+            numbers = {}
+            for name, count, bad in zip(self.workers, meals, fails):
+                site = numbers[name] = builder.site(name, count)
+                builder.resign(site)
+                if bad:
+                    builder.fails(site, bad)
+            for one, other, _ in self.edges:
+                builder.edge(numbers[one], numbers[other])
+            return builder.finish()
 
     def open(self) -> OpenTable:
         """Opens the table. What it returns may be shared by threads. With ``with`` it is closed at the end."""
@@ -204,7 +211,7 @@ class OpenTable:
     def __init__(self, table: Table, meals: list[int]) -> None:
         self._table = table
         self._meals = meals
-        self._plan = Plan(table._text(meals, [0] * len(meals)))
+        self._plan = table._plan(meals, [0] * len(meals))
         self._desks = [_Desk(n, name) for n, name in enumerate(table.workers)]
         self._numbers = {name: n for n, name in enumerate(table.workers)}
         self._values = [value for _, _, value in table.edges]
@@ -338,7 +345,7 @@ class OpenTable:
         todo: set[int] = set()
         while desk.inbox:
             letter = desk.inbox.popleft()
-            self._note(desk, Kind.TAKE, desk.where[int.from_bytes(letter[1:5], "little")])
+            self._note(desk, Kind.TAKE, desk.where[edge_of(letter)])
             desk.site.take(letter)
         while not desk.eats and (event := desk.site.next()):
             if event.kind is Kind.HUNGRY and is_open and not desk.queue:
@@ -610,7 +617,7 @@ class Closed:
             # The last meal of a site that gave up the rest was told as failed.
             kinds = [[event.kind for event in journal] for journal in journals]
             fails = [it.count(Kind.BEGIN) if Kind.QUIT in it else 0 for it in kinds]
-            world = World(table._table._text(table._meals, fails))
+            world = World(table._table._plan(table._meals, fails))
             count += len(world.order(journals))
             if events := world.enabled():
                 raise ValueError(f"the world goes on: {events}")
