@@ -288,12 +288,15 @@ def test_a_job_that_failed_and_quitting():
     with pytest.raises(DineError):
         site.act(Event(1, Kind.QUIT))
     site.end(failed=True)
+    assert [site.log(place) for place in (0, 1)] == [[Period(0, 1, 0), Period(1, 1, 1)], [Period(1, 1, 1)]]
     assert Kind.QUIT == site.next().kind and site.ate == 1
     assert site.act(site.next()) == b"" and site.phase is Phase.THINKING
-    # It has jobs left, and gave them up: no meal comes, and it says Done.
-    assert site.next().kind is Kind.DONE
+    # It has jobs left, and gave them up: no meal comes, and it says Done at each place.
     with pytest.raises(DineError):
         site.act(Event(1, Kind.HUNGRY))
+    for place in (0, 1):
+        assert site.next() == Event(1, Kind.DONE, place)
+        site.act(site.next())
     # One that went well goes on.
     other = Site(PAIR, 0)
     other.act(other.next())
@@ -452,8 +455,9 @@ def test_each_letter_that_is_refused_by_name():
     sites, boxes = [Site(PAIR, 0), Site(PAIR, 1)], [[], []]
     exchange(sites, boxes)
     assert status(sites[0], done) == (Status.AFTER_CLOSE, "a letter after Close")
-    for n, name in ((-3, "NOT_NOW"), (-4, "NO_SUCH"), (-5, "MEMORY"), (-7, "EATING")):
-        assert DineError(n).status.name == name
+    for n, name, words in ((-3, "NOT_NOW", "the rules do not allow"), (-4, "NO_SUCH", "there is no such site"),
+                           (-5, "MEMORY", "an allocation failed"), (-7, "EATING", "the site eats")):
+        assert DineError(n).status.name == name and str(DineError(n)).startswith(words)
 
 
 def test_a_letter_has_these_bytes():
