@@ -112,18 +112,18 @@ class DineError(Exception):
     number of the site or edge that it is about, and ``where`` says which: ``"site"``, ``"edge"`` or None.
     """
 
-    def __init__(self, status: int, refusal: str = "") -> None:
+    def __init__(self, status: int, refusal: str = "", why: str = "no plan") -> None:
         self.status: int = Status(status) if status in _WORDS else status
-        self.refusal = refusal
+        self.refusal, self._why = refusal, why
         self.cause = Cause(-100 - status) if status <= -101 else None
         at = refusal.partition(" at ")[2].split()
         self.where = at[0] if at else None
         self.position = int(at[1]) if at else None
-        words = f"no plan: {refusal}" if refusal else _WORDS.get(self.status, "status")
+        words = f"{why}: {refusal}" if refusal else _WORDS.get(self.status, "status")
         super().__init__(f"{words} ({status})")
 
     def __reduce__(self) -> tuple[Any, ...]:
-        return DineError, (self.status, self.refusal)
+        return DineError, (self.status, self.refusal, self._why)
 
 
 def _answer(status: int) -> int:

@@ -45,8 +45,22 @@ class Stay(NamedTuple):
     count: int  # type: ignore[assignment]
 
 
-def _refuse(cause: Cause, where: str, number: int) -> DineError:
-    return DineError(-100 - cause.value, f"{cause.value} {cause.name} at {where} {number}")
+# Why a worker or an edge is refused. In the words of the causes it is a site or an edge of a plan.
+_WHY = {
+    Cause.BadName: "a name is 1 to 32 letters of ASCII, digits, _ or -",
+    Cause.SiteTwice: "a worker has this name already",
+    Cause.TooManySites: "a table has at most 64 workers",
+    Cause.UnknownEnd: "no worker has this name",
+    Cause.Loop: "an edge is between two workers",
+    Cause.EdgeTwice: "these workers have an edge already",
+    Cause.TooManyEdges: "a table has at most 512 edges",
+}
+
+
+def _refuse(cause: Cause, where: str, number: int, *names: str) -> DineError:
+    what = "edge" if where == "edge" else "worker"
+    why = f"{what} {', '.join(map(repr, names))}: {_WHY[cause]}"
+    return DineError(-100 - cause.value, f"{cause.value} {cause.name} at {where} {number}", why)
 
 
 class Table:
@@ -73,11 +87,11 @@ class Table:
         Raises ``DineError`` with the cause if the name is none or is another worker's, or if there are 64 workers.
         """
         if not re.fullmatch("[A-Za-z0-9_-]{1,32}", name):
-            raise _refuse(Cause.BadName, "site", len(self.workers))
+            raise _refuse(Cause.BadName, "site", len(self.workers), name)
         if name in self.workers:
-            raise _refuse(Cause.SiteTwice, "site", len(self.workers))
+            raise _refuse(Cause.SiteTwice, "site", len(self.workers), name)
         if len(self.workers) == 64:
-            raise _refuse(Cause.TooManySites, "site", len(self.workers))
+            raise _refuse(Cause.TooManySites, "site", len(self.workers), name)
         self.workers[name] = state
         return name
 
@@ -97,7 +111,7 @@ class Table:
         elif len(self.edges) == 512:
             cause = Cause.TooManyEdges
         if cause is not None:
-            raise _refuse(cause, "edge", len(self.edges))
+            raise _refuse(cause, "edge", len(self.edges), one, other)
         self.edges.append((one, other, value))
         return len(self.edges) - 1
 
@@ -126,7 +140,11 @@ class Table:
             return builder.finish()
 
     def open(self) -> OpenTable:
-        """Opens the table. What it returns may be shared by threads. With ``with`` it is closed at the end."""
+        """Opens the table. What it returns may be shared by threads. With ``with`` it is closed at the end, and ``closed``
+        of it is what is left.
+
+        Raises ``DineError`` if the table has no worker.
+        """
         return OpenTable(self, [self._renew_after] * len(self.workers))
 
     def run(self, meals: int, job: Callable[[Meal], Any]) -> Ran:
@@ -209,6 +227,8 @@ class OpenTable:
     """
 
     def __init__(self, table: Table, meals: list[int]) -> None:
+        if not table.workers:
+            raise DineError(-100 - Cause.NoSite, f"{Cause.NoSite.value} {Cause.NoSite.name}", "a table needs a worker")
         self._table = table
         self._meals = meals
         self._plan = table._plan(meals, [0] * len(meals))
@@ -591,9 +611,10 @@ class Closed:
         self._table = table
         #: The values, by the numbers of their edges.
         self.values = list(table._values)
-        #: The state of each worker.
+        #: The state of each worker, by its name.
         self.states = dict(zip(table._numbers, table._states))
-        #: How many meals of each worker somebody was there for, and how many were empty.
+        #: How many meals of each worker somebody was there for, by its name, and how many were empty: whoever asked for
+        #: it had given up, or the worker ate its last meal when the table was closed, or its sites were opened anew.
         self.ate = {desk.name: desk.before + desk.ate - desk.empty for desk in table._desks}
         self.empty_meals = {desk.name: desk.empty for desk in table._desks}
 

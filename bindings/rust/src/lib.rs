@@ -61,6 +61,8 @@ pub enum Error {
     InMeal,
     /// A job panicked while it had a value of this worker.
     Poisoned,
+    /// No journals were kept: [`Table::keep_journals`].
+    NoJournals,
     /// The table is broken, since an allocation of the library failed.
     Gone,
     /// Another answer, which should not come.
@@ -159,6 +161,7 @@ impl fmt::Display for Error {
             Error::Closed => f.write_str("the table is closed"),
             Error::InMeal => f.write_str("this thread eats at this table already"),
             Error::Poisoned => f.write_str("a job panicked while it had a value of this worker"),
+            Error::NoJournals => f.write_str("no journals were kept: Table::keep_journals"),
             Error::Gone => f.write_str("the table is broken, since an allocation failed"),
             Error::Other(n) => write!(f, "status {n}"),
         }

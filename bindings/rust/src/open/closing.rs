@@ -111,7 +111,8 @@ impl<T: Send, S: Send> OpenTable<T, S> {
         }
     }
 
-    /// Closes the table, and returns what is left. Those who wait get `Closed`; meals that have begun are waited for.
+    /// Closes the table, and returns what is left. Those who wait get `Closed`; meals that have begun are waited for. Each
+    /// worker that has meals left then eats one more, which is empty.
     ///
     /// # Errors
     ///
@@ -244,11 +245,11 @@ impl<T, S> Closed<T, S> {
     ///
     /// # Errors
     ///
-    /// - `NoSuch` if no journals were kept: see [`Table::keep_journals`](crate::Table::keep_journals).
+    /// - `NoJournals` if none were kept: see [`Table::keep_journals`](crate::Table::keep_journals).
     /// - `NotNow` if there is no order.
     pub fn order(&self) -> Result<u64> {
         if self.journals.is_empty() {
-            return Err(Error::NoSuch);
+            return Err(Error::NoJournals);
         }
         let mut count = 0;
         for journals in &self.journals {
