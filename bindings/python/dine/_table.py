@@ -140,8 +140,8 @@ class Table:
             return builder.finish()
 
     def open(self) -> OpenTable:
-        """Opens the table. What it returns may be shared by threads. With ``with`` it is closed at the end, and ``closed``
-        of it is what is left.
+        """Opens the table. What it returns may be shared by threads. With ``with`` it is closed at the end, and its
+        ``closed`` is what is left.
 
         Raises ``DineError`` if the table has no worker.
         """
