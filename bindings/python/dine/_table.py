@@ -133,8 +133,8 @@ class Table:
         return text + "".join(f'[[edge]]\nends = ["{a}", "{b}"]\n' for a, b, _ in self.edges)
 
     def open(self) -> OpenTable:
-        """Opens the table. What it returns may be shared by threads. With ``with`` it is closed at the end, and ``closed``
-        of it is what is left.
+        """Opens the table. What it returns may be shared by threads. With ``with`` it is closed at the end, and its
+        ``closed`` is what is left.
 
         Raises ``DineError`` if the table has no worker.
         """
