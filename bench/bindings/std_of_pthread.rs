@@ -1,14 +1,101 @@
-//! The standard library with the mutexes and condition variables of pthread. For bench/sanitize, on Linux on x86-64.
+//! The standard library with mutexes, condition variables and parking by pthread, and an `Arc` without fences. For
+//! bench/sanitize, on Linux on x86-64.
 //!
 //! Those of std are compiled without the sanitizer: it does not see that they order what two threads do, and reports
-//! races that are none. It knows the calls of pthread.
+//! races that are none. It knows the calls of pthread, and it knows atomics, but no fences.
 pub use std::*;
+
+pub mod thread {
+    use super::sync::{Arc, Condvar, Mutex};
+    pub use std::thread::*;
+    use std::time::{Duration, Instant};
+
+    #[derive(Clone)]
+    pub struct Thread(Arc<(Mutex<bool>, Condvar)>);
+
+    std::thread_local! {
+        static ME: Thread = Thread(Arc::new((Mutex::new(false), Condvar::new())));
+    }
+
+    impl Thread {
+        pub fn unpark(&self) {
+            *self.0 .0.lock().unwrap() = true;
+            self.0 .1.notify_all();
+        }
+    }
+
+    pub fn current() -> Thread {
+        ME.with(Thread::clone)
+    }
+
+    pub fn park() {
+        let me = current();
+        let mut has_token = me.0 .0.lock().unwrap();
+        while !std::mem::take(&mut *has_token) {
+            has_token = me.0 .1.wait(has_token).unwrap();
+        }
+    }
+
+    /// Sleeps in short pieces, so that no call with a time is needed.
+    pub fn park_timeout(time: Duration) {
+        let (me, begun) = (current(), Instant::now());
+        while !std::mem::take(&mut *me.0 .0.lock().unwrap()) && begun.elapsed() < time {
+            std::thread::sleep(Duration::from_micros(10).min(time));
+        }
+    }
+}
 
 pub mod sync {
     pub use std::sync::*;
     use std::cell::UnsafeCell;
     use std::marker::PhantomData;
     use std::ops::{Deref, DerefMut};
+    use std::ptr::NonNull;
+    use std::sync::atomic::{AtomicUsize, Ordering};
+
+    pub struct Arc<T>(NonNull<(AtomicUsize, T)>);
+
+    // SAFETY: as of that of std.
+    unsafe impl<T: Send + Sync> Send for Arc<T> {}
+    unsafe impl<T: Send + Sync> Sync for Arc<T> {}
+
+    impl<T> Arc<T> {
+        pub fn new(value: T) -> Arc<T> {
+            Arc(NonNull::from(Box::leak(Box::new((AtomicUsize::new(1), value)))))
+        }
+
+        pub fn ptr_eq(this: &Arc<T>, other: &Arc<T>) -> bool {
+            this.0 == other.0
+        }
+
+        fn both(&self) -> &(AtomicUsize, T) {
+            // SAFETY: it is there until the last one is dropped.
+            unsafe { self.0.as_ref() }
+        }
+    }
+
+    impl<T> Clone for Arc<T> {
+        fn clone(&self) -> Arc<T> {
+            self.both().0.fetch_add(1, Ordering::Relaxed);
+            Arc(self.0)
+        }
+    }
+
+    impl<T> Deref for Arc<T> {
+        type Target = T;
+        fn deref(&self) -> &T {
+            &self.both().1
+        }
+    }
+
+    impl<T> Drop for Arc<T> {
+        fn drop(&mut self) {
+            if self.both().0.fetch_sub(1, Ordering::AcqRel) == 1 {
+                // SAFETY: this is the last one, and it was a box.
+                drop(unsafe { Box::from_raw(self.0.as_ptr()) });
+            }
+        }
+    }
 
     // As large as those of glibc, and open if all bytes are 0.
     #[repr(C, align(8))]
