@@ -132,7 +132,8 @@ def test_c(place):
     """The programs in C: the last one is refused memory by its limit."""
     assert place.output(place.program("bindings/c/pair.c")).endswith("\nevents 22 of 22\n")
     assert place.output(place.program("bindings/c/misuse.c"))
-    assert place.output(place.program("bindings/c/statuses.c")) == "0 wrong\n"
+    for name in ("statuses", "built"):
+        assert place.output(place.program(f"bindings/c/{name}.c")) == "0 wrong\n"
     assert place.output("sh", "-c", 'ulimit -v 120000 && exec "$0"', place.program("bindings/c/memory.c"))
 
 
@@ -232,7 +233,7 @@ def test_sites_of_the_page(place):
     loop = next(it for it in blocks("docs/BINDINGS.md") if it.startswith("from dine import Kind, Site"))
     Path(place.folder, "loop.py").write_text(loop, "utf-8")
     ran = "import queue, runpy, sys, threading; from dine import PAIR; inboxes = [queue.Queue(), queue.Queue()]\n"
-    ran += "def run(n): runpy.run_path('loop.py', {'text': PAIR, 'number': n, 'receive': inboxes[n].get, "
+    ran += "def run(n): runpy.run_path('loop.py', {'text': PAIR, 'number': n, 'random': 7, 'receive': inboxes[n].get, "
     ran += "'send': lambda to, letter: inboxes[to].put(letter), 'work': lambda: print('ate', n)})\n"
     ran += "threads = [threading.Thread(target=run, args=[n]) for n in (0, 1)]\n"
     ran += "[it.start() for it in threads]; [it.join(60) for it in threads]\n"

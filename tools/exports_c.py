@@ -8,7 +8,8 @@ import fresh
 from trying import HOME, paths, text_of
 
 # The types that cross, with their names in C, Rust and Python. A number goes as it is, the others behind a pointer.
-NUMBERS = {"u32": ("uint32_t", "u32", "Number"), "bool": ("bool", "bool", "c_bool")}
+NUMBERS = {"u32": ("uint32_t", "u32", "Number"), "u64": ("uint64_t", "u64", "c_uint64"),
+           "bool": ("bool", "bool", "c_bool")}
 STRUCTS = {"DineEvent": ("dine_event", "Event"), "DineEnds": ("dine_ends", "Ends"),
            "DineSiteState": ("dine_site_now", "SiteState"), "DinePlace": ("dine_place", "Place")}
 POINTED = {"Handle": ("dine_handle", "Handle", "Handle"), "u8": ("uint8_t", "u8", "c_uint8"),

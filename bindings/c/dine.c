@@ -4,6 +4,15 @@
 
 static uint32_t nothing;
 
+int64_t dine_raw_plan_builder_open(dine_handle *handle);
+int64_t dine_raw_plan_builder_site(dine_handle *handle, const uint8_t *name, size_t name_len, uint32_t jobs);
+int64_t dine_raw_plan_builder_edge(dine_handle *handle, uint32_t a, uint32_t b);
+int64_t dine_raw_plan_builder_value(dine_handle *handle, uint32_t edge, uint32_t value);
+int64_t dine_raw_plan_builder_resign(dine_handle *handle, uint32_t site);
+int64_t dine_raw_plan_builder_turns(dine_handle *handle, uint32_t site, uint32_t k, uint32_t turns);
+int64_t dine_raw_plan_builder_fails(dine_handle *handle, uint32_t site, uint32_t k);
+int64_t dine_raw_plan_builder_act(dine_handle *handle, uint32_t site, uint32_t k, bool sets, uint32_t amount);
+int64_t dine_raw_plan_builder_finish(dine_handle *builder, dine_handle *plan);
 int64_t dine_raw_plan_open(const uint8_t *text, size_t text_len, dine_handle *handle);
 int64_t dine_raw_plan_refusal(const uint8_t *text, size_t text_len, uint8_t *out, size_t out_len);
 int64_t dine_raw_close(dine_handle *handle);
@@ -14,6 +23,7 @@ int64_t dine_raw_plan_jobs(dine_handle *handle, uint32_t site);
 int64_t dine_raw_plan_name(dine_handle *handle, uint32_t site, uint8_t *out, size_t out_len);
 int64_t dine_raw_plan_ends(dine_handle *handle, uint32_t edge, dine_ends *out);
 int64_t dine_raw_site_open(dine_handle *plan, uint32_t number, dine_handle *site);
+int64_t dine_raw_site_open_in(dine_handle *plan, uint32_t number, uint64_t run, dine_handle *site);
 int64_t dine_raw_site_state(dine_handle *handle, dine_site_now *out);
 int64_t dine_raw_site_place(dine_handle *handle, uint32_t i, dine_place *out);
 int64_t dine_raw_site_next(dine_handle *handle, dine_event *out);
@@ -41,6 +51,69 @@ int64_t dine_raw_world_phase(dine_handle *handle, uint32_t site);
 int64_t dine_raw_world_ate(dine_handle *handle, uint32_t site);
 int64_t dine_raw_world_fork(dine_handle *handle, uint32_t edge, uint32_t *out, size_t out_len);
 int64_t dine_raw_world_value(dine_handle *handle, uint32_t edge);
+
+int64_t dine_plan_builder_open(dine_handle *handle) {
+    if (!handle)
+        return DINE_NULL;
+    return dine_raw_plan_builder_open(handle);
+}
+
+int64_t dine_plan_builder_site(dine_handle *handle, const uint8_t *name, size_t name_len, uint32_t jobs) {
+    if (!handle)
+        return DINE_NULL;
+    if (!name) {
+        if (name_len)
+            return DINE_NULL;
+        name = (void *)&nothing;
+    }
+    return dine_raw_plan_builder_site(handle, name, name_len, jobs);
+}
+
+int64_t dine_plan_builder_edge(dine_handle *handle, uint32_t a, uint32_t b) {
+    if (!handle)
+        return DINE_NULL;
+    return dine_raw_plan_builder_edge(handle, a, b);
+}
+
+int64_t dine_plan_builder_value(dine_handle *handle, uint32_t edge, uint32_t value) {
+    if (!handle)
+        return DINE_NULL;
+    return dine_raw_plan_builder_value(handle, edge, value);
+}
+
+int64_t dine_plan_builder_resign(dine_handle *handle, uint32_t site) {
+    if (!handle)
+        return DINE_NULL;
+    return dine_raw_plan_builder_resign(handle, site);
+}
+
+int64_t dine_plan_builder_turns(dine_handle *handle, uint32_t site, uint32_t k, uint32_t turns) {
+    if (!handle)
+        return DINE_NULL;
+    return dine_raw_plan_builder_turns(handle, site, k, turns);
+}
+
+int64_t dine_plan_builder_fails(dine_handle *handle, uint32_t site, uint32_t k) {
+    if (!handle)
+        return DINE_NULL;
+    return dine_raw_plan_builder_fails(handle, site, k);
+}
+
+int64_t dine_plan_builder_act(dine_handle *handle, uint32_t site, uint32_t k, bool sets, uint32_t amount) {
+    if (!handle)
+        return DINE_NULL;
+    return dine_raw_plan_builder_act(handle, site, k, sets, amount);
+}
+
+int64_t dine_plan_builder_finish(dine_handle *builder, dine_handle *plan) {
+    if (!builder)
+        return DINE_NULL;
+    if (!plan)
+        return DINE_NULL;
+    if (builder == plan)
+        return DINE_SAME_HANDLE;
+    return dine_raw_plan_builder_finish(builder, plan);
+}
 
 int64_t dine_plan_open(const uint8_t *text, size_t text_len, dine_handle *handle) {
     if (!text) {
@@ -124,6 +197,16 @@ int64_t dine_site_open(dine_handle *plan, uint32_t number, dine_handle *site) {
     if (plan == site)
         return DINE_SAME_HANDLE;
     return dine_raw_site_open(plan, number, site);
+}
+
+int64_t dine_site_open_in(dine_handle *plan, uint32_t number, uint64_t run, dine_handle *site) {
+    if (!plan)
+        return DINE_NULL;
+    if (!site)
+        return DINE_NULL;
+    if (plan == site)
+        return DINE_SAME_HANDLE;
+    return dine_raw_site_open_in(plan, number, run, site);
 }
 
 int64_t dine_site_state(dine_handle *handle, dine_site_now *out) {

@@ -5,7 +5,8 @@
  *
  * HANDLES. A dine_handle is two words of your memory. It is closed if both are zero:
  *     dine_handle world = DINE_CLOSED_HANDLE;
- * An open call puts a plan, a world or a site into a closed handle. dine_close takes it out and frees its memory.
+ * An open call puts a plan, a world, a site or a builder into a closed handle. dine_close takes it out and frees its
+ * memory.
  *
  * ANSWERS. A number from 0 on is an answer. A number below 0 says why there is none, and then nothing has changed, and
  * nothing was written for you. A null pointer, a closed handle, a handle of another kind, a number out of range and
@@ -25,10 +26,16 @@
  * and is not given back to the system. What is closed is used again, also in pieces of another size. A call copies its
  * arguments there, and returns DINE_MEMORY if they do not fit, whatever it is for.
  *
+ * RUNS. A letter begins with the number of its run. A site takes no letter of another run: it returns DINE_OTHER_RUN
+ * before anything else is checked. Without that a late letter of an older run would let two neighbours eat together. So
+ * open all sites of a run by dine_site_open_in with one number, and take another number for each run; see
+ * dine_run_number.
+ *
  * WHAT NO CALL CAN KNOW. A number of a site, an edge or a place that is out of range is refused. One of another plan
- * that is in range is taken as a number of this one. A letter is refused if its edge is none of the site's, or if the
- * fork that was kept does not explain it; a Request, a Done or a Close of another plan's edge with the same number is
- * taken. A letter tells how many meals its sender ate and the value of the edge, and nothing else is known of them.
+ * that is in range is taken as a number of this one. A letter of the run is refused if its edge is none of the site's,
+ * or if the fork that was kept does not explain it; a Request, a Done or a Close of another plan's edge with the same
+ * number is taken, if both runs have one number. A letter tells how many meals its sender ate and the value of the
+ * edge, and nothing else is known of them.
  */
 #ifndef DINE_H
 #define DINE_H
@@ -54,15 +61,22 @@ enum {
     DINE_OPEN_ALREADY = -8,     /* the handle to be opened is open */
     DINE_NULL = -9,             /* a pointer is null */
     DINE_SAME_HANDLE = -10,     /* two handles of one call are one */
-    DINE_LETTER_LENGTH = -11,   /* the bytes are no letter: none, or too few or too many for the kind that is first */
-    DINE_LETTER_KIND = -12,     /* the bytes are no letter: the first is no kind */
+    DINE_LETTER_LENGTH = -11,   /* the bytes are no letter: too few, or too few or too many for its kind */
+    DINE_LETTER_KIND = -12,     /* the bytes are no letter: the one behind the number of the run is no kind */
     DINE_LETTER_UNLAWFUL = -13, /* the other end cannot have done that with the fork */
     DINE_LETTER_EDGE = -14,     /* the letter is of an edge that the site does not have */
+    DINE_OTHER_RUN = -15,       /* the letter is of another run */
     DINE_BREACH = -20           /* -21 to -26: the rules do not allow the letter now: after Close, Request out of turn,
                                    Fork out of turn, strange Fork, Done out of turn, closed early */
-    /* -101 to -120: the text is no plan; dine_plan_refusal writes the cause in words */
+    /* -101 to -120: the text is no plan, or the builder would have none; dine_plan_refusal writes the cause of a text */
 };
-enum { DINE_LETTER_MAX = 21 }; /* no letter has more bytes */
+/* No letter has more bytes. The first eight are the number of its run, the least byte first; one for its kind and four
+ * for its edge follow. */
+enum { DINE_LETTER_MAX = 29 };
+/* The edge that a letter names. */
+static inline uint32_t dine_letter_edge(const uint8_t *letter) {
+    return letter[9] | (uint32_t)letter[10] << 8 | (uint32_t)letter[11] << 16 | (uint32_t)letter[12] << 24;
+}
 
 typedef enum dine_kind {
     DINE_TAKE, DINE_GIVE, DINE_END, DINE_BEGIN, DINE_QUIT, DINE_HUNGRY, DINE_ASK, DINE_DONE, DINE_CLOSE
@@ -91,6 +105,30 @@ int64_t dine_plan_jobs(dine_handle *plan, uint32_t site);
 int64_t dine_plan_name(dine_handle *plan, uint32_t site, uint8_t *out, size_t out_len);
 int64_t dine_plan_ends(dine_handle *plan, uint32_t edge, dine_ends *out);
 
+/* A builder: a plan by calls, with no text. Sites and edges get numbers from 0, in the order in which they are added.
+ * The jobs of a site have numbers k from 1, which are their names. What no plan can have is refused at once, with the
+ * number of its cause in docs/FORMAT.md below -100, and then the builder is as it was. */
+int64_t dine_plan_builder_open(dine_handle *builder);
+/* Returns the number of the site. Refuses: -106 the name is not 1 to 32 letters of ASCII, digits, _ or -; -107 a site
+ * has it; -109 there are 64 sites; -110 it has more than 1,000 jobs. The first of these is the status. */
+int64_t dine_plan_builder_site(dine_handle *builder, const uint8_t *name, size_t name_len, uint32_t jobs);
+/* Returns the number of the edge, whose value is 0. Refuses: -112 a or b is no site; -113 both are one; -114 they have
+ * an edge; -115 there are 512 edges. The first of these is the status. */
+int64_t dine_plan_builder_edge(dine_handle *builder, uint32_t a, uint32_t b);
+/* The value before the first meal. Refuses: -119 it is above 1,000,000; DINE_NO_SUCH. */
+int64_t dine_plan_builder_value(dine_handle *builder, uint32_t edge, uint32_t value);
+/* The site drops the jobs that it has left after one failed. */
+int64_t dine_plan_builder_resign(dine_handle *builder, uint32_t site);
+/* Refuses: -111 there are more than 1,000,000 turns; DINE_NO_SUCH. */
+int64_t dine_plan_builder_turns(dine_handle *builder, uint32_t site, uint32_t k, uint32_t turns);
+int64_t dine_plan_builder_fails(dine_handle *builder, uint32_t site, uint32_t k);
+/* The meal of the job sets the value of each edge of the site to the amount, or adds the amount. Refuses: -118 the
+ * amount is above 1,000,000; DINE_NO_SUCH. */
+int64_t dine_plan_builder_act(dine_handle *builder, uint32_t site, uint32_t k, bool sets, uint32_t amount);
+/* Makes the plan, as dine_plan_open does of a text of version 2. The builder stays as it is, and may go on. Refuses:
+ * -108 there is no site. */
+int64_t dine_plan_builder_finish(dine_handle *builder, dine_handle *plan);
+
 /* A world: all sites of a plan in one thread. */
 int64_t dine_world_open(dine_handle *plan, dine_handle *world);
 /* A bound on the events of any schedule from the start. */
@@ -113,8 +151,20 @@ int64_t dine_world_fork(dine_handle *world, uint32_t edge, uint32_t *out, size_t
 int64_t dine_world_value(dine_handle *world, uint32_t edge);
 
 /* One site, whose letters are bytes that you carry to the neighbour, each once and in order. A call that puts a letter
- * returns the number of its bytes. */
+ * returns the number of its bytes. dine_site_open opens a site of the run 0. */
 int64_t dine_site_open(dine_handle *plan, uint32_t number, dine_handle *site);
+int64_t dine_site_open_in(dine_handle *plan, uint32_t number, uint64_t run, dine_handle *site);
+/* A number for a run of the plan with this text. `random` is drawn once for each run, and all processes of the run are
+ * told it. A process that has another text, or was told of another run, has another number, unless chance has it. It is
+ * FNV-1a of the eight bytes of `random`, the least first, and of the text: no defence against whoever means harm. */
+static inline uint64_t dine_run_number(const uint8_t *text, size_t text_len, uint64_t random) {
+    uint64_t sum = 0xcbf29ce484222325u;
+    for (size_t at = 0; at < 8 + text_len; at++) {
+        uint64_t byte = at < 8 ? random >> (8 * at) & 0xff : text[at - 8];
+        sum = (sum ^ byte) * 0x100000001b3u;
+    }
+    return sum;
+}
 int64_t dine_site_state(dine_handle *site, dine_site_now *out);
 int64_t dine_site_place(dine_handle *site, uint32_t i, dine_place *out);
 int64_t dine_site_next(dine_handle *site, dine_event *out);

@@ -73,6 +73,9 @@ static void nulls(dine_handle *world, dine_handle *site) {
     WANT(dine_world_open(&plan, NULL), DINE_NULL);
     WANT(dine_world_open(&plan, &plan), DINE_SAME_HANDLE);
     WANT(dine_site_open(&plan, 0, &plan), DINE_SAME_HANDLE);
+    WANT(dine_site_open_in(&plan, 0, 1, &plan), DINE_SAME_HANDLE);
+    WANT(dine_site_open_in(NULL, 0, 1, &other), DINE_NULL);
+    WANT(dine_site_open_in(&plan, 0, 1, NULL), DINE_NULL);
     WANT(dine_world_enabled(world, 0, NULL), DINE_NULL);
     WANT(dine_world_step(world, NULL), DINE_NULL);
     WANT(dine_world_step(NULL, &event), DINE_NULL);
@@ -99,6 +102,9 @@ static void handles(void) {
     WANT(dine_site_open(&plan, 0, &world), DINE_OPEN_ALREADY);
     WANT(dine_site_open(&world, 0, &site), DINE_OTHER_KIND);
     WANT(dine_site_open(&plan, 2, &site), DINE_NO_SUCH);
+    WANT(dine_site_open_in(&plan, 0, 1, &world), DINE_OPEN_ALREADY);
+    WANT(dine_site_open_in(&world, 0, 1, &site), DINE_OTHER_KIND);
+    WANT(dine_site_open_in(&plan, 2, 1, &site), DINE_NO_SUCH);
     WANT(dine_site_open(&plan, 1, &site), DINE_OK);
     WANT(dine_site_next(&world, &event), DINE_OTHER_KIND);
     WANT(dine_world_count(&site), DINE_OTHER_KIND);
@@ -125,16 +131,16 @@ static void letters(void) {
     dine_handle a = DINE_CLOSED_HANDLE, b = DINE_CLOSED_HANDLE;
     uint8_t letter[64], other[64];
     int64_t n = first_fork(&a, &b, letter);
-    WANT(n, 21);
+    WANT(n, DINE_LETTER_MAX);
     WANT(dine_site_give(&a, 0, other, sizeof other), DINE_NOT_NOW);
     WANT(dine_site_give(&a, 9, other, sizeof other), DINE_NO_SUCH);
-    WANT(dine_site_done(&a, 0, other, 20), DINE_SMALL);
+    WANT(dine_site_done(&a, 0, other, DINE_LETTER_MAX - 1), DINE_SMALL);
     WANT(dine_site_take(&a, letter, n), DINE_BREACH - 3); /* its own letter comes back */
     for (int64_t k = 0; k < n; k++)
         WANT(dine_site_take(&b, letter, k), DINE_LETTER_LENGTH);
     memcpy(other, letter, n);
     WANT(dine_site_take(&b, other, n + 1), DINE_LETTER_LENGTH);
-    other[1] = 1;
+    other[9] = 1;
     WANT(dine_site_take(&b, other, n), DINE_LETTER_EDGE);
     /* mutated letters: each is refused and changes nothing, unless site a could have sent it, after 0 to 2 meals */
     srand(1984);
@@ -145,9 +151,9 @@ static void letters(void) {
         int64_t len = rand() % 4 ? n : rand() % 64;
         for (int changes = 1 + rand() % 3; changes > 0; changes--)
             other[rand() % n] = rand() % 3 ? rand() % 4 : rand();
-        int could_be = len == n && !memcmp(other, letter, 9) && !memcmp(other + 13, letter + 13, 8) &&
-                       other[9] <= 2 && !other[10] && !other[11] && !other[12];
-        int plain = len == 5 && other[0] >= 2 && other[0] <= 4;
+        int could_be = len == n && !memcmp(other, letter, 17) && !memcmp(other + 21, letter + 21, 8) &&
+                       other[17] <= 2 && !other[18] && !other[19] && !other[20];
+        int plain = len == 13 && !memcmp(other, letter, 8) && other[8] >= 2 && other[8] <= 4;
         if (could_be || plain) {
             lawful++;
             continue;
@@ -184,21 +190,21 @@ static void during_a_meal(void) {
     WANT(dine_site_begin(&b), DINE_OK);
     WANT(dine_site_hungry(&a), DINE_OK);
     int64_t asked = dine_site_ask(&a, 0, ask, sizeof ask);
-    WANT(asked, 5);
+    WANT(asked, 13);
     WANT(dine_site_take(&b, ask, asked), DINE_OK);
     WANT(dine_site_take(&b, ask, asked), DINE_BREACH - 2); /* the same Request once more */
     WANT(dine_site_place(&b, 0, &place), DINE_OK);
     WANT(place.has_token, 1);
     WANT(dine_site_give(&b, 0, fork, sizeof fork), DINE_EATING);
     WANT(dine_site_end(&b, false), DINE_OK);
-    WANT(dine_site_give(&b, 0, fork, sizeof fork), 21);
-    WANT(dine_site_take(&a, fork, 21), DINE_OK);
+    WANT(dine_site_give(&b, 0, fork, sizeof fork), DINE_LETTER_MAX);
+    WANT(dine_site_take(&a, fork, DINE_LETTER_MAX), DINE_OK);
     WANT(dine_site_begin(&a), DINE_OK);
-    WANT(dine_site_done(&b, 0, letter, sizeof letter), 5);
-    WANT(dine_site_take(&a, letter, 5), DINE_OK); /* Done, during a meal */
+    WANT(dine_site_done(&b, 0, letter, sizeof letter), 13);
+    WANT(dine_site_take(&a, letter, 13), DINE_OK); /* Done, during a meal */
     WANT(dine_site_end(&a, false), DINE_OK);
-    WANT(dine_site_done(&a, 0, letter, sizeof letter), 5);
-    WANT(dine_site_take(&b, letter, 5), DINE_OK);
+    WANT(dine_site_done(&a, 0, letter, sizeof letter), 13);
+    WANT(dine_site_take(&b, letter, 13), DINE_OK);
     WANT(dine_close(&a), DINE_OK);
     WANT(dine_close(&b), DINE_OK);
 }

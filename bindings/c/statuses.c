@@ -10,7 +10,7 @@ static const char *PLAN =
     "[[site]]\nname = \"b\"\njobs = [{ name = \"z\" }]\n[[edge]]\nends = [\"a\", \"b\"]\n";
 static const char *RESIGNING =
     "version = 2\n[[site]]\nname = \"a\"\njobs = [{ name = \"x\" }, { name = \"y\" }]\non_fault = \"resign\"\n";
-enum { BYTES = 64 };
+enum { BYTES = 64, FORK = DINE_LETTER_MAX, WORD = 13 };
 static int wrong;
 static dine_handle plan = DINE_CLOSED_HANDLE;
 static uint8_t out[BYTES], letter[BYTES];
@@ -156,21 +156,32 @@ static void steps(void) {
     WANT(dine_close(&resigning), DINE_OK);
 }
 
-/* Bytes that are no letter: the first byte tells whether the kind or the length is wrong. */
+/* Bytes that are no letter: those of the run come first, and then the kind tells which length is right. */
 static void bytes_of_no_letter(void) {
-    static const uint8_t done_of_edge_0[5] = {3, 0, 0, 0, 0};
+    static const uint8_t done_of_edge_0[WORD] = {0, 0, 0, 0, 0, 0, 0, 0, 3, 0, 0, 0, 0};
     pair it = opened();
     uint8_t bytes[BYTES];
     memset(bytes, 0, sizeof bytes);
-    WANT(dine_site_take(&it.a, bytes, 0), DINE_LETTER_LENGTH);
+    for (size_t length = 0; length <= 8; length++)
+        WANT(dine_site_take(&it.a, bytes, length), DINE_LETTER_LENGTH);
     for (int kind = 0; kind < 256; kind++)
-        for (size_t length = 1; length < BYTES; length++) {
-            bytes[0] = (uint8_t)kind;
-            bytes[1] = 9; /* of an edge that is not there */
-            int is_kind = kind >= 1 && kind <= 4, is_length = length == (kind == 1 ? 21 : 5);
+        for (size_t length = 9; length < BYTES; length++) {
+            bytes[8] = (uint8_t)kind;
+            bytes[9] = 9; /* of an edge that is not there */
+            int is_kind = kind >= 1 && kind <= 4, is_length = length == (kind == 1 ? FORK : WORD);
             WANT(dine_site_take(&it.a, bytes, length),
                  !is_kind ? DINE_LETTER_KIND : !is_length ? DINE_LETTER_LENGTH : DINE_LETTER_EDGE);
         }
+    /* of another run: whatever follows, and each byte of the number counts */
+    for (int at = 0; at < 8; at++) {
+        memset(bytes, 0, sizeof bytes);
+        bytes[at] = 1;
+        for (int kind = 0; kind < 6; kind++)
+            for (size_t length = 8; length < BYTES; length++) {
+                bytes[8] = (uint8_t)kind;
+                WANT(dine_site_take(&it.a, bytes, length), DINE_OTHER_RUN);
+            }
+    }
     close_both(&it);
     /* these bytes are Done in each version of the library */
     it = asked();
@@ -184,29 +195,29 @@ static void bytes_of_no_letter(void) {
 
 /* Letters that the rules do not allow. */
 static void breaches(void) {
-    static const uint8_t request[5] = {2}, done[5] = {3}, closing[5] = {4};
+    static const uint8_t request[WORD] = {[8] = 2}, done[WORD] = {[8] = 3}, closing[WORD] = {[8] = 4};
     uint8_t other[BYTES];
     pair it = asked();
-    WANT(dine_site_take(&it.a, request, 5), DINE_BREACH - 2); /* the same Request once more */
-    WANT(dine_site_take(&it.a, done, 5), DINE_BREACH - 5);    /* with a meal left */
-    WANT(dine_site_take(&it.a, closing, 5), DINE_BREACH - 6); /* before Done */
-    WANT(dine_site_give(&it.a, 0, letter, BYTES), 21);
-    memcpy(other, letter, 21);
-    other[9] = 3; /* one meal more than site a has */
-    WANT(dine_site_take(&it.b, other, 21), DINE_LETTER_UNLAWFUL);
-    memcpy(other, letter, 21);
-    other[13]++; /* another value than the meals give */
-    WANT(dine_site_take(&it.b, other, 21), DINE_LETTER_UNLAWFUL);
+    WANT(dine_site_take(&it.a, request, WORD), DINE_BREACH - 2); /* the same Request once more */
+    WANT(dine_site_take(&it.a, done, WORD), DINE_BREACH - 5);    /* with a meal left */
+    WANT(dine_site_take(&it.a, closing, WORD), DINE_BREACH - 6); /* before Done */
+    WANT(dine_site_give(&it.a, 0, letter, BYTES), FORK);
+    memcpy(other, letter, FORK);
+    other[17] = 3; /* one meal more than site a has */
+    WANT(dine_site_take(&it.b, other, FORK), DINE_LETTER_UNLAWFUL);
+    memcpy(other, letter, FORK);
+    other[21]++; /* another value than the meals give */
+    WANT(dine_site_take(&it.b, other, FORK), DINE_LETTER_UNLAWFUL);
     /* Done, and then a fork with fewer meals than are due */
-    WANT(dine_site_take(&it.b, done, 5), DINE_OK);
-    WANT(dine_site_take(&it.b, letter, 21), DINE_BREACH - 4);
-    WANT(dine_site_take(&it.b, done, 5), DINE_BREACH - 5);
+    WANT(dine_site_take(&it.b, done, WORD), DINE_OK);
+    WANT(dine_site_take(&it.b, letter, FORK), DINE_BREACH - 4);
+    WANT(dine_site_take(&it.b, done, WORD), DINE_BREACH - 5);
     close_both(&it);
     /* the fork, and once more */
     it = asked();
-    WANT(dine_site_give(&it.a, 0, letter, BYTES), 21);
-    WANT(dine_site_take(&it.b, letter, 21), DINE_OK);
-    WANT(dine_site_take(&it.b, letter, 21), DINE_BREACH - 3);
+    WANT(dine_site_give(&it.a, 0, letter, BYTES), FORK);
+    WANT(dine_site_take(&it.b, letter, FORK), DINE_OK);
+    WANT(dine_site_take(&it.b, letter, FORK), DINE_BREACH - 3);
     /* both are done and close in order, and then anything */
     WANT(dine_site_begin(&it.b), DINE_OK);
     WANT(dine_site_end(&it.b, false), DINE_OK);
@@ -218,12 +229,64 @@ static void breaches(void) {
     CARRIED(dine_site_done(&it.a, 0, letter, BYTES), &it.b, DINE_OK);
     CARRIED(dine_site_done(&it.b, 0, letter, BYTES), &it.a, DINE_OK);
     CARRIED(dine_site_shut(&it.a, 0, letter, BYTES), &it.b, DINE_OK);
-    WANT(dine_site_take(&it.b, request, 5), DINE_BREACH - 1);
-    WANT(dine_site_take(&it.b, closing, 5), DINE_BREACH - 1);
+    WANT(dine_site_take(&it.b, request, WORD), DINE_BREACH - 1);
+    WANT(dine_site_take(&it.b, closing, WORD), DINE_BREACH - 1);
     memset(other, 0, sizeof other);
-    other[0] = 1;
-    WANT(dine_site_take(&it.b, other, 21), DINE_BREACH - 1);
+    other[8] = 1;
+    WANT(dine_site_take(&it.b, other, FORK), DINE_BREACH - 1);
     close_both(&it);
+}
+
+/* The fork of an older run comes late. If both runs have one number, site b takes it, and two neighbours eat together.
+ * If they have not, it is refused and nothing changes. */
+static void a_late_letter(uint64_t older, uint64_t run) {
+    dine_handle a = DINE_CLOSED_HANDLE, b = DINE_CLOSED_HANDLE;
+    uint8_t late[BYTES];
+    dine_site_now now;
+    int is_same = older == run;
+    WANT(dine_site_open_in(&plan, 0, older, &a), DINE_OK);
+    WANT(dine_site_open_in(&plan, 1, older, &b), DINE_OK);
+    WANT(dine_site_hungry(&b), DINE_OK);
+    CARRIED(dine_site_ask(&b, 0, letter, BYTES), &a, DINE_OK);
+    WANT(dine_site_give(&a, 0, late, BYTES), FORK);
+    for (int at = 0; at < 8; at++)
+        WANT(late[at], older >> (8 * at) & 0xff);
+    WANT(dine_letter_edge(late), 0);
+    WANT(dine_close(&a), DINE_OK);
+    WANT(dine_close(&b), DINE_OK);
+    WANT(dine_site_open_in(&plan, 0, run, &a), DINE_OK);
+    WANT(dine_site_open_in(&plan, 1, run, &b), DINE_OK);
+    WANT(dine_site_hungry(&a), DINE_OK);
+    WANT(dine_site_begin(&a), DINE_OK);
+    WANT(dine_site_hungry(&b), DINE_OK);
+    CARRIED(dine_site_ask(&b, 0, letter, BYTES), &a, DINE_OK);
+    WANT(dine_site_take(&b, late, FORK), is_same ? DINE_OK : DINE_OTHER_RUN);
+    WANT(dine_site_begin(&b), is_same ? DINE_OK : DINE_NOT_NOW);
+    WANT(dine_site_state(&a, &now), DINE_OK);
+    WANT(now.phase, 2);
+    WANT(dine_site_state(&b, &now), DINE_OK);
+    WANT(now.phase, is_same ? 2 : 1);
+    /* the run goes on as if nothing had come */
+    WANT(dine_site_end(&a, false), DINE_OK);
+    if (!is_same) {
+        CARRIED(dine_site_give(&a, 0, letter, BYTES), &b, DINE_OK);
+        WANT(dine_site_begin(&b), DINE_OK);
+    }
+    WANT(dine_close(&a), DINE_OK);
+    WANT(dine_close(&b), DINE_OK);
+}
+
+static void runs(void) {
+    const uint64_t most = UINT64_MAX;
+    const uint8_t *text = (const uint8_t *)"version = 1\n";
+    a_late_letter(0, 0);
+    a_late_letter(7, 7);
+    a_late_letter(0, 1);
+    a_late_letter(most, 0);
+    a_late_letter(1, (uint64_t)1 << 63 | 1);
+    WANT(dine_run_number(text, 12, 1984) == 0x3dce6814d6b72b26u, 1);
+    WANT(dine_run_number(text, 12, 1984) != dine_run_number(text, 12, 1985), 1);
+    WANT(dine_run_number(text, 12, 1984) != dine_run_number(text, 11, 1984), 1);
 }
 
 /* Both sites by the events that dine_site_next names, until all is done. */
@@ -240,7 +303,7 @@ static void by_events(void) {
     REFUSES(dine_site_act(&it.b, &event, out, BYTES), DINE_NO_SUCH); /* an event of site a */
     event.kind = DINE_GIVE;
     REFUSES(dine_site_act(&it.a, &event, out, BYTES), DINE_NOT_NOW);
-    REFUSES(dine_site_act(&it.a, &event, out, 20), DINE_SMALL);
+    REFUSES(dine_site_act(&it.a, &event, out, FORK - 1), DINE_SMALL);
     WANT(dine_site_place(&it.a, 0, &place), DINE_OK);
     WANT(place.has_fork && place.is_dirty, 1); /* at the start the lower site has it, dirty */
     WANT(dine_site_place(&it.b, 0, &place), DINE_OK);
@@ -258,7 +321,7 @@ static void by_events(void) {
             if (event.kind == DINE_BEGIN)
                 WANT(place.is_dirty, 1);
             WANT(dine_site_place(other, 0, &place), DINE_OK);
-            if (length == 21)
+            if (length == FORK)
                 moves++, was_clean += place.has_fork && !place.is_dirty;
             idle = 0;
         }
@@ -278,6 +341,7 @@ int main(void) {
     steps();
     bytes_of_no_letter();
     breaches();
+    runs();
     by_events();
     WANT(dine_close(&plan), DINE_OK);
     printf("%d wrong\n", wrong);

@@ -34,6 +34,8 @@ fn existing(folder: &Path) -> PathBuf {
 fn compiled() -> PathBuf {
     let folder = PathBuf::from(var("OUT_DIR").expect("cargo sets it"));
     let build = if Path::new("../build").exists() { "../build" } else { "build" };
+    let words = "is not here: take dine from its repository, by path or git, or from the package of bindings/package";
+    assert!(Path::new(build).exists(), "bindings/build {words}");
     for path in ["c", "../c", "../../programs/made"] {
         if Path::new(path).exists() {
             println!("cargo:rerun-if-changed={path}");

@@ -158,7 +158,7 @@ static void take(void) {
     must("a letter", dine_site_take(&sites[it.to], it.bytes, it.len));
     if (++letters == dies_at)
         raise(SIGKILL);
-    uint32_t edge = it.bytes[1] | it.bytes[2] << 8 | it.bytes[3] << 16 | (uint32_t)it.bytes[4] << 24;
+    uint32_t edge = dine_letter_edge(it.bytes);
     dine_place place = {0, 0, 0, 0, 0};
     uint32_t i = 0;
     while (must("a place", dine_site_place(&sites[it.to], i, &place)) == DINE_OK && place.edge != edge)

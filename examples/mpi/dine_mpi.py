@@ -18,7 +18,7 @@ import time
 import traceback
 from collections import deque
 
-from dine import Event, Kind, Plan, Site, World
+from dine import Event, Kind, Plan, Site, World, edge_of
 from mpi4py import MPI
 
 COMM = MPI.COMM_WORLD
@@ -75,7 +75,7 @@ class Rank:
         """Waits for a letter, and gives it to its site."""
         to, letter = self.here.popleft() if self.here else COMM.recv()
         self.sites[to].take(letter)
-        edge = int.from_bytes(letter[1:5], "little")
+        edge = edge_of(letter)
         self.note(to, Kind.TAKE, next(i for i, place in enumerate(self.places[to]) if place.edge == edge))
         self.letters += 1
         if self.letters == DIES_AT:

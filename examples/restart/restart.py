@@ -3,7 +3,8 @@
 Before a site does an event or takes a letter, it writes that to its *journal*, a file. After that it appends the letter
 that it puts, if any, to the file of the *link*. What a site does is determined by its journal. So if its process is
 killed, a new one does again what the journal has, appends the letters that are missing in the links, and goes on. If a
-meal began and has no end in the journal, its job is done again.
+meal began and has no end in the journal, its job is done again. The folder keeps the number of the run, which each new
+process takes: so all are of one run, and no letter of another is taken.
 
 Here a parent starts a process for each of five sites in a ring, and kills one of them again and again. In the end the
 world of the plan accepts one order of all journals. Each site is proved, and so is the world. Trusted is that a file
@@ -12,6 +13,7 @@ keeps what was written to it, in order. If the machine may lose power, each writ
 
 import os
 import random
+import secrets
 import signal
 import struct
 import sys
@@ -19,7 +21,7 @@ import tempfile
 import time
 from pathlib import Path
 
-from dine import Event, Kind, Plan, Site, World
+from dine import Event, Kind, Plan, Site, World, run_number
 
 SITES, JOBS = 5, 20
 JOB = '{ name = "work" }'
@@ -32,7 +34,7 @@ PLAN = "version = 1\n" + "".join(
 class Records:
     """A file of records of one length. A record that a kill has cut is none."""
 
-    FORM = struct.Struct("<BBB21s")  # a kind, a place, the length of a letter, and the letter
+    FORM = struct.Struct("<BBB29s")  # a kind, a place, the length of a letter, and the letter
 
     def __init__(self, path: Path) -> None:
         self.path = path
@@ -52,11 +54,19 @@ class Records:
             file.write(self.FORM.pack(kind, place, len(letter), letter))
 
 
+def run_of(folder: Path) -> int:
+    """Returns the number of the run, whose random part the folder keeps."""
+    path = folder / "run"
+    if not path.exists():
+        path.write_text(str(secrets.randbits(64)))
+    return run_number(PLAN, int(path.read_text()))
+
+
 class Process:
     """A site with its journal and its links, brought to where the journal ends."""
 
     def __init__(self, folder: Path, number: int) -> None:
-        self.number, self.site = number, Site(PLAN, number)
+        self.number, self.site = number, Site(PLAN, number, run=run_of(folder))
         self.journal = Records(folder / f"journal-{number}")
         neighbours = [place.neighbour for place in self.site.places]
         self.outward = [Records(folder / f"link-{number}-{it}") for it in neighbours]
@@ -109,6 +119,7 @@ def start(folder: Path, number: int) -> int:
 
 def run(folder: Path, kills: int) -> int:
     """Runs all sites to their ends, and returns how many processes were killed."""
+    run_of(folder)  # drawn before the first process is there
     alive = {start(folder, number): number for number in range(SITES)}
     killed = 0
     while alive:

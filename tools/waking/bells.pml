@@ -145,7 +145,7 @@ byte faults = FAULTS;
 #endif
 
 /* Wakes the thread of a bell: a swap, and a call of the kernel if the thread is parked there.
-   of sleeper.rt: Waker::unpark */
+   of sleeper.rt: Waker::unpark; of counted_parker.rt: CountedUnparker::unpark */
 inline unpark(s) {
 #ifdef BUG_NO_TOKEN
   d_step { word = parker[s]; if :: word == PARKED -> parker[s] = NOTIFIED :: else fi };
@@ -322,7 +322,7 @@ inline fall_asleep() {
 }
 
 /* Parks the thread: it sleeps in the kernel while the word is PARKED, and may wake there for no reason.
-   of sleeper.rt: Sleeper::sleep */
+   of sleeper.rt: Sleeper::sleep; of counted_parker.rt: CountedParker::park */
 inline park() {
   d_step { if :: parker[me] == EMPTY -> parker[me] = PARKED :: else fi };
   do
@@ -390,7 +390,7 @@ go_on:
         sleeps there. A patient one, which is in PATIENT too, checks or does not; so this stands for any patience.
         of running.rt: Running::begin, Running::check_bell, Running::take_where_rung, Running::take_recalled, recall_before_meal, is_checking,
         skips_then
-        of bell.rt: Bell::check */
+        of bell.rt: Bell::check; of empty_checks.rt: EmptyChecks::next_or_add */
      if
      :: (POLITE & BIT(me)) == 0 || (PATIENT & BIT(me))
      :: (POLITE & BIT(me)) && (put_off & dirty) -> RECALL; goto heard_one
@@ -422,7 +422,8 @@ hear:
 #endif
   /* of Runs.antt: HearsRing
      of running.rt: Running::hear_and_take
-     of bell.rt: Bell::wait_for, Bell::next_ring, Bell::fall_asleep, next_ring_or_sleep */
+     of bell.rt: Bell::wait_for, Bell::next_ring, Bell::fall_asleep, next_ring_or_sleep;
+     of sleeper.rt: SleepState::next_or_sleep */
   if
   :: HEAR; goto heard_one
   :: empty(bell[me])

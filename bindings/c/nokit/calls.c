@@ -2,6 +2,80 @@
  * library is the module as C, so that a C compiler is all that it needs. */
 #include "loans.h"
 
+int64_t dine_raw_plan_builder_open(dine_handle *handle) {
+    call it = begin();
+    u64 handle_at = lend_handle(&it, handle);
+    if (!it.fits)
+        return end(&it, DINE_MEMORY);
+    return end(&it, (int64_t)Z_dine_ffiZ_dine_raw_plan_builder_open(&module, handle_at));
+}
+
+int64_t dine_raw_plan_builder_site(dine_handle *handle, const uint8_t *name, size_t name_len, uint32_t jobs) {
+    call it = begin();
+    u64 handle_at = lend_handle(&it, handle);
+    u64 name_at = lend(&it, name, name_len * sizeof *name, false);
+    if (!it.fits)
+        return end(&it, DINE_MEMORY);
+    return end(&it, (int64_t)Z_dine_ffiZ_dine_raw_plan_builder_site(&module, handle_at, name_at, name_len, jobs));
+}
+
+int64_t dine_raw_plan_builder_edge(dine_handle *handle, uint32_t a, uint32_t b) {
+    call it = begin();
+    u64 handle_at = lend_handle(&it, handle);
+    if (!it.fits)
+        return end(&it, DINE_MEMORY);
+    return end(&it, (int64_t)Z_dine_ffiZ_dine_raw_plan_builder_edge(&module, handle_at, a, b));
+}
+
+int64_t dine_raw_plan_builder_value(dine_handle *handle, uint32_t edge, uint32_t value) {
+    call it = begin();
+    u64 handle_at = lend_handle(&it, handle);
+    if (!it.fits)
+        return end(&it, DINE_MEMORY);
+    return end(&it, (int64_t)Z_dine_ffiZ_dine_raw_plan_builder_value(&module, handle_at, edge, value));
+}
+
+int64_t dine_raw_plan_builder_resign(dine_handle *handle, uint32_t site) {
+    call it = begin();
+    u64 handle_at = lend_handle(&it, handle);
+    if (!it.fits)
+        return end(&it, DINE_MEMORY);
+    return end(&it, (int64_t)Z_dine_ffiZ_dine_raw_plan_builder_resign(&module, handle_at, site));
+}
+
+int64_t dine_raw_plan_builder_turns(dine_handle *handle, uint32_t site, uint32_t k, uint32_t turns) {
+    call it = begin();
+    u64 handle_at = lend_handle(&it, handle);
+    if (!it.fits)
+        return end(&it, DINE_MEMORY);
+    return end(&it, (int64_t)Z_dine_ffiZ_dine_raw_plan_builder_turns(&module, handle_at, site, k, turns));
+}
+
+int64_t dine_raw_plan_builder_fails(dine_handle *handle, uint32_t site, uint32_t k) {
+    call it = begin();
+    u64 handle_at = lend_handle(&it, handle);
+    if (!it.fits)
+        return end(&it, DINE_MEMORY);
+    return end(&it, (int64_t)Z_dine_ffiZ_dine_raw_plan_builder_fails(&module, handle_at, site, k));
+}
+
+int64_t dine_raw_plan_builder_act(dine_handle *handle, uint32_t site, uint32_t k, bool sets, uint32_t amount) {
+    call it = begin();
+    u64 handle_at = lend_handle(&it, handle);
+    if (!it.fits)
+        return end(&it, DINE_MEMORY);
+    return end(&it, (int64_t)Z_dine_ffiZ_dine_raw_plan_builder_act(&module, handle_at, site, k, sets, amount));
+}
+
+int64_t dine_raw_plan_builder_finish(dine_handle *builder, dine_handle *plan) {
+    call it = begin();
+    u64 builder_at = lend_handle(&it, builder);
+    u64 plan_at = lend_handle(&it, plan);
+    if (!it.fits)
+        return end(&it, DINE_MEMORY);
+    return end(&it, (int64_t)Z_dine_ffiZ_dine_raw_plan_builder_finish(&module, builder_at, plan_at));
+}
+
 int64_t dine_raw_plan_open(const uint8_t *text, size_t text_len, dine_handle *handle) {
     call it = begin();
     u64 text_at = lend(&it, text, text_len * sizeof *text, false);
@@ -85,6 +159,15 @@ int64_t dine_raw_site_open(dine_handle *plan, uint32_t number, dine_handle *site
     if (!it.fits)
         return end(&it, DINE_MEMORY);
     return end(&it, (int64_t)Z_dine_ffiZ_dine_raw_site_open(&module, plan_at, number, site_at));
+}
+
+int64_t dine_raw_site_open_in(dine_handle *plan, uint32_t number, uint64_t run, dine_handle *site) {
+    call it = begin();
+    u64 plan_at = lend_handle(&it, plan);
+    u64 site_at = lend_handle(&it, site);
+    if (!it.fits)
+        return end(&it, DINE_MEMORY);
+    return end(&it, (int64_t)Z_dine_ffiZ_dine_raw_site_open_in(&module, plan_at, number, run, site_at));
 }
 
 int64_t dine_raw_site_state(dine_handle *handle, dine_site_now *out) {

@@ -37,11 +37,32 @@ void Z_dine_ffi_free(Z_dine_ffi_instance_t*);
 /* export: 'memory' */
 wasm_rt_memory_t* Z_dine_ffiZ_memory(Z_dine_ffi_instance_t* instance);
 
+/* export: 'dine_raw_plan_builder_open' */
+u64 Z_dine_ffiZ_dine_raw_plan_builder_open(Z_dine_ffi_instance_t*, u64);
+
 /* export: 'dine_raw_plan_open' */
 u64 Z_dine_ffiZ_dine_raw_plan_open(Z_dine_ffi_instance_t*, u64, u64, u64);
 
 /* export: 'dine_raw_close' */
 u64 Z_dine_ffiZ_dine_raw_close(Z_dine_ffi_instance_t*, u64);
+
+/* export: 'dine_raw_plan_builder_act' */
+u64 Z_dine_ffiZ_dine_raw_plan_builder_act(Z_dine_ffi_instance_t*, u64, u32, u32, u32, u32);
+
+/* export: 'dine_raw_plan_builder_edge' */
+u64 Z_dine_ffiZ_dine_raw_plan_builder_edge(Z_dine_ffi_instance_t*, u64, u32, u32);
+
+/* export: 'dine_raw_plan_builder_fails' */
+u64 Z_dine_ffiZ_dine_raw_plan_builder_fails(Z_dine_ffi_instance_t*, u64, u32, u32);
+
+/* export: 'dine_raw_plan_builder_finish' */
+u64 Z_dine_ffiZ_dine_raw_plan_builder_finish(Z_dine_ffi_instance_t*, u64, u64);
+
+/* export: 'dine_raw_plan_builder_resign' */
+u64 Z_dine_ffiZ_dine_raw_plan_builder_resign(Z_dine_ffi_instance_t*, u64, u32);
+
+/* export: 'dine_raw_plan_builder_site' */
+u64 Z_dine_ffiZ_dine_raw_plan_builder_site(Z_dine_ffi_instance_t*, u64, u64, u64, u32);
 
 /* export: 'dine_raw_plan_edges' */
 u64 Z_dine_ffiZ_dine_raw_plan_edges(Z_dine_ffi_instance_t*, u64);
@@ -88,6 +109,9 @@ u64 Z_dine_ffiZ_dine_raw_site_hungry(Z_dine_ffi_instance_t*, u64);
 /* export: 'dine_raw_site_next' */
 u64 Z_dine_ffiZ_dine_raw_site_next(Z_dine_ffi_instance_t*, u64, u64);
 
+/* export: 'dine_raw_site_open_in' */
+u64 Z_dine_ffiZ_dine_raw_site_open_in(Z_dine_ffi_instance_t*, u64, u32, u64, u64);
+
 /* export: 'dine_raw_site_open' */
 u64 Z_dine_ffiZ_dine_raw_site_open(Z_dine_ffi_instance_t*, u64, u32, u64);
 
@@ -129,6 +153,12 @@ u64 Z_dine_ffiZ_dine_raw_world_replay(Z_dine_ffi_instance_t*, u64, u64, u64);
 
 /* export: 'dine_raw_world_step' */
 u64 Z_dine_ffiZ_dine_raw_world_step(Z_dine_ffi_instance_t*, u64, u64);
+
+/* export: 'dine_raw_plan_builder_turns' */
+u64 Z_dine_ffiZ_dine_raw_plan_builder_turns(Z_dine_ffi_instance_t*, u64, u32, u32, u32);
+
+/* export: 'dine_raw_plan_builder_value' */
+u64 Z_dine_ffiZ_dine_raw_plan_builder_value(Z_dine_ffi_instance_t*, u64, u32, u32);
 
 /* export: 'dine_raw_site_value' */
 u64 Z_dine_ffiZ_dine_raw_site_value(Z_dine_ffi_instance_t*, u64, u32);

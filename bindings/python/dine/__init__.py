@@ -4,6 +4,7 @@
 - ``World`` has all sites of a plan, and is stepped event by event.
 - ``Site`` is one site, whose letters are ``bytes``: carry them to the neighbour, in order, by any means, such as a
   socket.
+- ``PlanBuilder`` makes the ``Plan`` of a world or of sites by calls, and ``Plan`` reads one from a text.
 
 The rules are those of ``libdine.so``, which are proved. This package is only tested.
 
@@ -18,12 +19,14 @@ The rules are those of ``libdine.so``, which are proved. This package is only te
 [70]
 """
 
+from ._builder import PlanBuilder
 from ._causes import Cause
-from ._core import LETTER_MAX, PAIR, DineError, Event, Kind, Period, Phase, Place, Plan, Site, Status, World
+from ._core import (LETTER_MAX, PAIR, DineError, Event, Kind, Period, Phase, Place, Plan, Site, Status, World, edge_of,
+                    run_number)
 from ._table import AsyncSeat, Closed, Gone, InMeal, Meal, OpenTable, Ran, Seat, Stay, Table, TableClosed, TimedOut
 
 __all__ = [
     "LETTER_MAX", "PAIR", "AsyncSeat", "Cause", "Closed", "DineError", "Event", "Gone", "InMeal", "Kind", "Meal",
-    "OpenTable", "Period", "Phase", "Place", "Plan", "Ran", "Seat", "Site", "Status", "Stay", "Table", "TableClosed",
-    "TimedOut", "World",
+    "OpenTable", "Period", "Phase", "Place", "Plan", "PlanBuilder", "Ran", "Seat", "Site", "Status", "Stay", "Table",
+    "TableClosed", "TimedOut", "World", "edge_of", "run_number",
 ]

@@ -1,7 +1,7 @@
 """Written by tools/bindings from the exports of crates/dine_ffi: the calls of dine.h, for ctypes."""
 from __future__ import annotations
 
-from ctypes import CDLL, POINTER, Structure, c_bool, c_int64, c_size_t, c_uint8, c_uint32, c_void_p
+from ctypes import CDLL, POINTER, Structure, c_bool, c_int64, c_size_t, c_uint8, c_uint32, c_uint64, c_void_p
 from typing import Any
 
 
@@ -34,6 +34,15 @@ class Place(Structure):
 
 
 CALLS = {
+    "dine_plan_builder_open": [POINTER(Handle)],
+    "dine_plan_builder_site": [POINTER(Handle), POINTER(c_uint8), c_size_t, Number],
+    "dine_plan_builder_edge": [POINTER(Handle), Number, Number],
+    "dine_plan_builder_value": [POINTER(Handle), Number, Number],
+    "dine_plan_builder_resign": [POINTER(Handle), Number],
+    "dine_plan_builder_turns": [POINTER(Handle), Number, Number, Number],
+    "dine_plan_builder_fails": [POINTER(Handle), Number, Number],
+    "dine_plan_builder_act": [POINTER(Handle), Number, Number, c_bool, Number],
+    "dine_plan_builder_finish": [POINTER(Handle), POINTER(Handle)],
     "dine_plan_open": [POINTER(c_uint8), c_size_t, POINTER(Handle)],
     "dine_plan_refusal": [POINTER(c_uint8), c_size_t, POINTER(c_uint8), c_size_t],
     "dine_close": [POINTER(Handle)],
@@ -44,6 +53,7 @@ CALLS = {
     "dine_plan_name": [POINTER(Handle), Number, POINTER(c_uint8), c_size_t],
     "dine_plan_ends": [POINTER(Handle), Number, POINTER(Ends)],
     "dine_site_open": [POINTER(Handle), Number, POINTER(Handle)],
+    "dine_site_open_in": [POINTER(Handle), Number, c_uint64, POINTER(Handle)],
     "dine_site_state": [POINTER(Handle), POINTER(SiteState)],
     "dine_site_place": [POINTER(Handle), Number, POINTER(Place)],
     "dine_site_next": [POINTER(Handle), POINTER(Event)],

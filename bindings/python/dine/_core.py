@@ -27,9 +27,31 @@ except OSError as error:
 _calls.declare(_LIB)
 
 # No letter has more bytes.
-LETTER_MAX = 21
-# The first byte of a letter that is Close.
-_CLOSE = 4
+LETTER_MAX = 29
+# Where the kind of a letter is, behind the number of its run, and the kind of Close.
+_KIND_AT, _CLOSE = 8, 4
+
+
+def edge_of(letter: bytes) -> int:
+    """The edge that a letter names."""
+    return int.from_bytes(letter[_KIND_AT + 1 : _KIND_AT + 5], "little")
+
+
+def run_number(text: str, random: int) -> int:
+    """A number for a run of the plan with this text, for ``Site(.., run=..)``.
+
+    ``random`` is a number of 64 bits, such as ``secrets.randbits(64)``. It is drawn once for each run, and all
+    processes of the run are told it. A process that has another text, or was told of another run, has another number,
+    unless chance has it. It is FNV-1a of the eight bytes of ``random``, the least first, and of the text: no defence
+    against whoever means harm.
+
+    >>> run_number("version = 1\\n", 1984)
+    4453611520226962214
+    """
+    total = 0xCBF29CE484222325
+    for byte in random.to_bytes(8, "little") + text.encode():
+        total = (total ^ byte) * 0x100000001B3 % 2**64
+    return total
 
 
 class Status(IntEnum):
@@ -49,6 +71,7 @@ class Status(IntEnum):
     LETTER_KIND = -12
     LETTER_UNLAWFUL = -13
     LETTER_EDGE = -14
+    OTHER_RUN = -15
     AFTER_CLOSE = -21
     REQUEST_OUT_OF_TURN = -22
     FORK_OUT_OF_TURN = -23
@@ -69,9 +92,10 @@ _WORDS: dict[int, str] = {
     Status.NULL: "a pointer is null",
     Status.SAME_HANDLE: "two handles of one call are one",
     Status.LETTER_LENGTH: "too few bytes for a letter, or too many",
-    Status.LETTER_KIND: "the first byte of the letter is no kind",
+    Status.LETTER_KIND: "the letter is of no kind",
     Status.LETTER_UNLAWFUL: "the neighbour cannot have done that with the fork",
     Status.LETTER_EDGE: "the letter is of an edge that the site does not have",
+    Status.OTHER_RUN: "the letter is of another run",
     Status.AFTER_CLOSE: "a letter after Close",
     Status.REQUEST_OUT_OF_TURN: "a Request out of turn",
     Status.FORK_OUT_OF_TURN: "a Fork out of turn",
@@ -84,22 +108,22 @@ _WORDS: dict[int, str] = {
 class DineError(Exception):
     """A call had no answer. ``status`` is the reason, a ``Status`` if it is not that a text is no plan, and an int.
 
-    If a text is no plan, ``cause`` is the cause, ``position`` the number of the site or edge that it is about, and
-    ``where`` says which: ``"site"``, ``"edge"`` or None.
+    If a text is no plan, or what a builder or a table would have is none, ``cause`` is the cause, ``position`` the
+    number of the site or edge that it is about, and ``where`` says which: ``"site"``, ``"edge"`` or None.
     """
 
-    def __init__(self, status: int, refusal: str = "") -> None:
+    def __init__(self, status: int, refusal: str = "", why: str = "no plan") -> None:
         self.status: int = Status(status) if status in _WORDS else status
-        self.refusal = refusal
+        self.refusal, self._why = refusal, why
         self.cause = Cause(-100 - status) if status <= -101 else None
         at = refusal.partition(" at ")[2].split()
         self.where = at[0] if at else None
         self.position = int(at[1]) if at else None
-        words = f"the text is no plan: {refusal}" if refusal else _WORDS.get(self.status, "status")
+        words = f"{why}: {refusal}" if refusal else _WORDS.get(self.status, "status")
         super().__init__(f"{words} ({status})")
 
     def __reduce__(self) -> tuple[Any, ...]:
-        return DineError, (self.status, self.refusal)
+        return DineError, (self.status, self.refusal, self._why)
 
 
 def _answer(status: int) -> int:
@@ -228,7 +252,8 @@ def _buffer(data: bytes) -> Any:
 
 
 class Plan(_Owner):
-    """A plan: sites with their jobs, and edges. It is read from a text of ``docs/FORMAT.md``, and can be pickled.
+    """A plan: sites with their jobs, and edges. It is read from a text of ``docs/FORMAT.md``, or built by a
+    ``PlanBuilder``, and can be pickled.
 
     >>> plan = Plan(PAIR)
     >>> plan.sites, plan.edges, plan.jobs(0)
@@ -239,8 +264,10 @@ class Plan(_Owner):
         super().__init__()
         if not isinstance(text, str):
             raise TypeError(f"the text of a plan is a str, not {type(text).__name__}")
-        #: The text that it was read from.
+        #: The text that it was read from. It is empty if the plan was built by calls.
         self.text = text
+        # The calls by which it was built.
+        self._built: tuple[Any, ...] = ()
         self._read: tuple[list[str], list[tuple[int, int]]] | None = None
         data = text.encode()
         status = _LIB.dine_plan_open(_buffer(data), len(data), byref(self._handle))
@@ -251,10 +278,15 @@ class Plan(_Owner):
         _answer(status)
 
     def __reduce__(self) -> tuple[Any, ...]:
+        if self._built:
+            from ._builder import rebuilt
+            return rebuilt, (self._built,)
         return Plan, (self.text,)
 
     def __copy__(self) -> Plan:
-        return Plan(self.text)
+        make, words = self.__reduce__()
+        plan: Plan = make(*words)
+        return plan
 
     def _shape(self) -> tuple[list[str], list[tuple[int, int]]]:
         with self._lock:
@@ -532,6 +564,9 @@ def _raw(event: Event) -> _calls.Event:
 class Site(_Owner):
     """One site of a plan. A letter is ``bytes``, and belongs to the site at the other end of its place.
 
+    All sites of a run are opened with one number ``run``, from 0 to 2**64 - 1, and each run has another: ``run_number``
+    makes one. A site refuses the letters of other runs, before it looks at anything else.
+
     >>> a, b = Site(PAIR, 0), Site(PAIR, 1)
     >>> b.act(b.next()), b.next()
     (b'', Event(site=1, kind=<Kind.ASK: 6>, place=0))
@@ -540,15 +575,17 @@ class Site(_Owner):
     Event(site=0, kind=<Kind.GIVE: 1>, place=0)
     """
 
-    def __init__(self, plan: Plan | str, site: int) -> None:
+    def __init__(self, plan: Plan | str, site: int, *, run: int = 0) -> None:
         super().__init__()
+        if not 0 <= run < 2**64:
+            raise ValueError(f"the number of a run has 64 bits, and {run} is none")
         self.plan = _plan(plan)
-        self.number = site
+        self.number, self.run = site, run
         # The edges of places that were broken off, and those over which Close has come.
         self._broken: set[int] = set()
         self._ended: set[int] = set()
         with self.plan._lock:
-            _answer(_LIB.dine_site_open(byref(self.plan._handle), site, byref(self._handle)))
+            _answer(_LIB.dine_site_open_in(byref(self.plan._handle), site, run, byref(self._handle)))
 
     def _state(self) -> _calls.SiteState:
         state = _calls.SiteState()
@@ -617,8 +654,8 @@ class Site(_Owner):
         """
         with self._lock:
             self._call(_LIB.dine_site_take, _buffer(letter), len(letter))
-            if letter[0] == _CLOSE:
-                self._ended.add(int.from_bytes(letter[1:5], "little"))
+            if letter[_KIND_AT] == _CLOSE:
+                self._ended.add(edge_of(letter))
 
     def break_off(self, place: int) -> bytes:
         """Gives the link of a place up, as after the loss of its connection. Returns the letter, which is Close.

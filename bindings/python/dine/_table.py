@@ -13,8 +13,9 @@ import threading
 from collections import deque
 from typing import Any, Callable, Iterable, Iterator, MutableMapping, NamedTuple
 
+from ._builder import PlanBuilder
 from ._causes import Cause
-from ._core import DineError, Event, Kind, Plan, Site, World
+from ._core import DineError, Event, Kind, Plan, Site, World, edge_of
 
 #: The meals that a site has at most. Once a site has eaten them, all sites are opened anew.
 MEALS = 1000
@@ -44,8 +45,22 @@ class Stay(NamedTuple):
     count: int  # type: ignore[assignment]
 
 
-def _refuse(cause: Cause, where: str, number: int) -> DineError:
-    return DineError(-100 - cause.value, f"{cause.value} {cause.name} at {where} {number}")
+# Why a worker or an edge is refused. In the words of the causes it is a site or an edge of a plan.
+_WHY = {
+    Cause.BadName: "a name is 1 to 32 letters of ASCII, digits, _ or -",
+    Cause.SiteTwice: "a worker has this name already",
+    Cause.TooManySites: "a table has at most 64 workers",
+    Cause.UnknownEnd: "no worker has this name",
+    Cause.Loop: "an edge is between two workers",
+    Cause.EdgeTwice: "these workers have an edge already",
+    Cause.TooManyEdges: "a table has at most 512 edges",
+}
+
+
+def _refuse(cause: Cause, where: str, number: int, *names: str) -> DineError:
+    what = "edge" if where == "edge" else "worker"
+    why = f"{what} {', '.join(map(repr, names))}: {_WHY[cause]}"
+    return DineError(-100 - cause.value, f"{cause.value} {cause.name} at {where} {number}", why)
 
 
 class Table:
@@ -72,11 +87,11 @@ class Table:
         Raises ``DineError`` with the cause if the name is none or is another worker's, or if there are 64 workers.
         """
         if not re.fullmatch("[A-Za-z0-9_-]{1,32}", name):
-            raise _refuse(Cause.BadName, "site", len(self.workers))
+            raise _refuse(Cause.BadName, "site", len(self.workers), name)
         if name in self.workers:
-            raise _refuse(Cause.SiteTwice, "site", len(self.workers))
+            raise _refuse(Cause.SiteTwice, "site", len(self.workers), name)
         if len(self.workers) == 64:
-            raise _refuse(Cause.TooManySites, "site", len(self.workers))
+            raise _refuse(Cause.TooManySites, "site", len(self.workers), name)
         self.workers[name] = state
         return name
 
@@ -96,7 +111,7 @@ class Table:
         elif len(self.edges) == 512:
             cause = Cause.TooManyEdges
         if cause is not None:
-            raise _refuse(cause, "edge", len(self.edges))
+            raise _refuse(cause, "edge", len(self.edges), one, other)
         self.edges.append((one, other, value))
         return len(self.edges) - 1
 
@@ -110,16 +125,26 @@ class Table:
         self._has_journals = True
         return self
 
-    def _text(self, meals: Iterable[int], fails: Iterable[int]) -> str:
-        """The plan: the number of jobs of each site, and which of them fails, 0 if none."""
-        text = "version = 2\n"
-        for name, count, bad in zip(self.workers, meals, fails):
-            jobs = ", ".join('{ name = "x"%s }' % (", fails = true" * (k == bad)) for k in range(1, count + 1))
-            text += f'[[site]]\nname = "{name}"\njobs = [{jobs}]\non_fault = "resign"\n'
-        return text + "".join(f'[[edge]]\nends = ["{a}", "{b}"]\n' for a, b, _ in self.edges)
+    def _plan(self, meals: Iterable[int], fails: Iterable[int]) -> Plan:
+        """The plan, with the number of jobs of each site, and which of them fails, 0 if none. A site with jobs left may
+        give them up after one that fails."""
+        with PlanBuilder() as builder:
+            numbers = {}
+            for name, count, bad in zip(self.workers, meals, fails):
+                site = numbers[name] = builder.site(name, count)
+                builder.resign(site)
+                if bad:
+                    builder.fails(site, bad)
+            for one, other, _ in self.edges:
+                builder.edge(numbers[one], numbers[other])
+            return builder.finish()
 
     def open(self) -> OpenTable:
-        """Opens the table. What it returns may be shared by threads. With ``with`` it is closed at the end."""
+        """Opens the table. What it returns may be shared by threads. With ``with`` it is closed at the end, and its
+        ``closed`` is what is left.
+
+        Raises ``DineError`` if the table has no worker.
+        """
         return OpenTable(self, [self._renew_after] * len(self.workers))
 
     def run(self, meals: int, job: Callable[[Meal], Any]) -> Ran:
@@ -202,9 +227,11 @@ class OpenTable:
     """
 
     def __init__(self, table: Table, meals: list[int]) -> None:
+        if not table.workers:
+            raise DineError(-100 - Cause.NoSite, f"{Cause.NoSite.value} {Cause.NoSite.name}", "a table needs a worker")
         self._table = table
         self._meals = meals
-        self._plan = Plan(table._text(meals, [0] * len(meals)))
+        self._plan = table._plan(meals, [0] * len(meals))
         self._desks = [_Desk(n, name) for n, name in enumerate(table.workers)]
         self._numbers = {name: n for n, name in enumerate(table.workers)}
         self._values = [value for _, _, value in table.edges]
@@ -338,7 +365,7 @@ class OpenTable:
         todo: set[int] = set()
         while desk.inbox:
             letter = desk.inbox.popleft()
-            self._note(desk, Kind.TAKE, desk.where[int.from_bytes(letter[1:5], "little")])
+            self._note(desk, Kind.TAKE, desk.where[edge_of(letter)])
             desk.site.take(letter)
         while not desk.eats and (event := desk.site.next()):
             if event.kind is Kind.HUNGRY and is_open and not desk.queue:
@@ -584,9 +611,10 @@ class Closed:
         self._table = table
         #: The values, by the numbers of their edges.
         self.values = list(table._values)
-        #: The state of each worker.
+        #: The state of each worker, by its name.
         self.states = dict(zip(table._numbers, table._states))
-        #: How many meals of each worker somebody was there for, and how many were empty.
+        #: How many meals of each worker somebody was there for, by its name, and how many were empty: whoever asked for
+        #: it had given up, or the worker ate its last meal when the table was closed, or its sites were opened anew.
         self.ate = {desk.name: desk.before + desk.ate - desk.empty for desk in table._desks}
         self.empty_meals = {desk.name: desk.empty for desk in table._desks}
 
@@ -610,7 +638,7 @@ class Closed:
             # The last meal of a site that gave up the rest was told as failed.
             kinds = [[event.kind for event in journal] for journal in journals]
             fails = [it.count(Kind.BEGIN) if Kind.QUIT in it else 0 for it in kinds]
-            world = World(table._table._text(table._meals, fails))
+            world = World(table._table._plan(table._meals, fails))
             count += len(world.order(journals))
             if events := world.enabled():
                 raise ValueError(f"the world goes on: {events}")

@@ -1,11 +1,15 @@
-"""Two processes run the two sites of a plan over a socketpair, and end by themselves."""
+"""Two processes run the two sites of a plan over a socketpair, and end by themselves.
+
+Each run has a number, so a letter that an older run has left in a connection would be refused.
+"""
 
 import os
+import secrets
 import socket
 import struct
 import sys
 
-from dine import Kind, Site
+from dine import Kind, Site, run_number
 
 JOBS = int(sys.argv[1]) if len(sys.argv) > 1 else 3
 PLAN = "version = 2\n" + "".join(
@@ -31,8 +35,8 @@ def receive(sock: socket.socket) -> bytes:
     return exactly(struct.unpack("<I", exactly(4))[0])
 
 
-def run(number: int, sock: socket.socket) -> str:
-    site = Site(PLAN, number)
+def run(number: int, random: int, sock: socket.socket) -> str:
+    site = Site(PLAN, number, run=run_number(PLAN, random))
     letters = 0
     while not site.is_finished:
         event = site.next()
@@ -50,13 +54,14 @@ def run(number: int, sock: socket.socket) -> str:
 
 def main() -> int:
     ours, theirs = socket.socketpair()
+    random = secrets.randbits(64)  # drawn once, and known to both
     child = os.fork()
     if child == 0:
         ours.close()
-        print(run(1, theirs), flush=True)
+        print(run(1, random, theirs), flush=True)
         os._exit(0)
     theirs.close()
-    print(run(0, ours), flush=True)
+    print(run(0, random, ours), flush=True)
     return os.waitstatus_to_exitcode(os.waitpid(child, 0)[1])
 
 

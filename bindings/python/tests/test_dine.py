@@ -11,7 +11,8 @@ import threading
 from concurrent.futures import ThreadPoolExecutor
 
 import pytest
-from dine import PAIR, Cause, DineError, Event, Kind, Period, Phase, Place, Plan, Site, Status, World
+from dine import (PAIR, Cause, DineError, Event, Kind, Period, Phase, Place, Plan, Site, Status, World, edge_of,
+                  run_number)
 
 # Three sites in a row, the middle one of which resigns after a job that fails.
 PATH = """version = 2
@@ -267,7 +268,7 @@ def test_what_is_seen_of_a_world_is_what_sites_have():
                 for p in it.places:
                     assert (p.has_fork, p.has_token) == (seen.forks[p.edge] == n, seen.tokens[p.edge] == n)
                     assert p.is_dirty == (p.has_fork and seen.dirty[p.edge])
-                    kinds = "".join(" FRDC"[letter[0]] for letter in links.get((p.edge, n), []))
+                    kinds = "".join(" FRDC"[letter[8]] for letter in links.get((p.edge, n), []))
                     assert seen.letters[p.edge][seen.ends[p.edge].index(n)] == kinds
         assert all(it.is_finished for it in sites)
 
@@ -287,12 +288,15 @@ def test_a_job_that_failed_and_quitting():
     with pytest.raises(DineError):
         site.act(Event(1, Kind.QUIT))
     site.end(failed=True)
+    assert [site.log(place) for place in (0, 1)] == [[Period(0, 1, 0), Period(1, 1, 1)], [Period(1, 1, 1)]]
     assert Kind.QUIT == site.next().kind and site.ate == 1
     assert site.act(site.next()) == b"" and site.phase is Phase.THINKING
-    # It has jobs left, and gave them up: no meal comes, and it says Done.
-    assert site.next().kind is Kind.DONE
+    # It has jobs left, and gave them up: no meal comes, and it says Done at each place.
     with pytest.raises(DineError):
         site.act(Event(1, Kind.HUNGRY))
+    for place in (0, 1):
+        assert site.next() == Event(1, Kind.DONE, place)
+        site.act(site.next())
     # One that went well goes on.
     other = Site(PAIR, 0)
     other.act(other.next())
@@ -339,7 +343,7 @@ def test_a_link_that_is_broken_off():
     site = Site(PAIR, 0)
     with pytest.raises(DineError):
         site.act(Event(0, Kind.CLOSE, 0))
-    assert site.break_off(0) == b"\4\0\0\0\0"
+    assert site.break_off(0) == word(4)
     with pytest.raises(DineError):
         site.break_off(0)
 
@@ -376,6 +380,50 @@ def test_a_site_whose_neighbour_is_lost():
     assert (sites[1].ate, sites[1].is_finished, sites[1].is_stuck) == (3, False, True)
 
 
+def word(kind, edge=0):
+    """The first bytes of a letter of the run 0: all of it, if it is no Fork."""
+    return bytes([0, 0, 0, 0, 0, 0, 0, 0, kind, edge, 0, 0, 0])
+
+
+@pytest.mark.parametrize("older, run", [(0, 0), (7, 7), (0, 1), (2**64 - 1, 0), (1, 2**63 + 1)])
+def test_a_late_letter_of_an_older_run(older, run):
+    """Site a eats, and b waits for the fork. If the late one is taken, two neighbours eat together."""
+    a, b = (Site(PAIR, n, run=older) for n in (0, 1))
+    b.act(b.next())
+    a.take(b.act(b.next()))
+    late = a.act(a.next())
+    assert late[:8] == older.to_bytes(8, "little") and edge_of(late) == 0
+    a, b = (Site(PAIR, n, run=run) for n in (0, 1))
+    a.act(a.next())
+    a.begin()
+    b.act(b.next())
+    a.take(b.act(b.next()))
+    if older == run:
+        b.take(late)
+        b.begin()
+        assert a.phase is b.phase is Phase.EATING
+        return
+    with pytest.raises(DineError, match="the letter is of another run") as refused:
+        b.take(late)
+    assert refused.value.status is Status.OTHER_RUN
+    with pytest.raises(DineError):
+        b.begin()
+    assert (a.phase, b.phase) == (Phase.EATING, Phase.HUNGRY)
+    a.end()
+    b.take(a.act(Event(0, Kind.GIVE, 0)))
+    b.begin()
+
+
+def test_numbers_of_runs():
+    for none in (-1, 2**64):
+        with pytest.raises(ValueError):
+            Site(PAIR, 0, run=none)
+    numbers = {run_number(text, random) for text in (PAIR, PATH, "") for random in (0, 1, 2**64 - 1)}
+    assert len(numbers) == 9 and all(0 <= it < 2**64 for it in numbers)
+    # Each language makes the same numbers.
+    assert run_number("version = 1\n", 1984) == 0x3DCE6814D6B72B26
+
+
 def test_each_letter_that_is_refused_by_name():
     def status(site, letter):
         with pytest.raises(DineError) as refused:
@@ -383,20 +431,21 @@ def test_each_letter_that_is_refused_by_name():
         return refused.value.status, str(refused.value).partition(" (")[0]
 
     a, b = Site(PAIR, 0), Site(PAIR, 1)
-    assert status(a, b"") == status(a, b"\2" * 22) == (
+    assert status(a, b"") == status(a, word(2)[:12]) == (
         Status.LETTER_LENGTH, "too few bytes for a letter, or too many")
-    assert status(a, b"\x09\0\0\0\0") == (Status.LETTER_KIND, "the first byte of the letter is no kind")
-    assert status(a, b"\2\7\0\0\0") == (
+    assert status(a, b"\2" * 22) == (Status.OTHER_RUN, "the letter is of another run")
+    assert status(a, word(9)) == (Status.LETTER_KIND, "the letter is of no kind")
+    assert status(a, word(2, 7)) == (
         Status.LETTER_EDGE, "the letter is of an edge that the site does not have")
     b.act(b.next())
     request = b.act(b.next())
     a.take(request)
     assert status(a, request) == (Status.REQUEST_OUT_OF_TURN, "a Request out of turn")
     fork = a.act(a.next())
-    assert status(b, fork[:9] + b"\5" + fork[10:]) == (
+    assert status(b, fork[:17] + b"\5" + fork[18:]) == (
         Status.LETTER_UNLAWFUL, "the neighbour cannot have done that with the fork")
     assert status(a, fork) == (Status.FORK_OUT_OF_TURN, "a Fork out of turn")
-    done, close = b"\3\0\0\0\0", b"\4\0\0\0\0"
+    done, close = word(3), word(4)
     assert status(b, close) == (Status.CLOSED_EARLY, "a Close before both sites said Done")
     b.take(done)
     assert status(b, done) == (Status.DONE_OUT_OF_TURN, "a Done out of turn")
@@ -406,15 +455,16 @@ def test_each_letter_that_is_refused_by_name():
     sites, boxes = [Site(PAIR, 0), Site(PAIR, 1)], [[], []]
     exchange(sites, boxes)
     assert status(sites[0], done) == (Status.AFTER_CLOSE, "a letter after Close")
-    for n, name in ((-3, "NOT_NOW"), (-4, "NO_SUCH"), (-5, "MEMORY"), (-7, "EATING")):
-        assert DineError(n).status.name == name
+    for n, name, words in ((-3, "NOT_NOW", "the rules do not allow"), (-4, "NO_SUCH", "there is no such site"),
+                           (-5, "MEMORY", "an allocation failed"), (-7, "EATING", "the site eats")):
+        assert DineError(n).status.name == name and str(DineError(n)).startswith(words)
 
 
 def test_a_letter_has_these_bytes():
     sites, boxes = [Site(PAIR, 0), Site(PAIR, 1)], [[], []]
     letters = exchange(sites, boxes)
-    # Fork, Request, Done and Close, each with its edge.
-    assert {letter[:5] for it in letters for letter in it} == {bytes([kind, 0, 0, 0, 0]) for kind in (1, 2, 3, 4)}
+    # Fork, Request, Done and Close, each with its run and its edge.
+    assert {letter[:13] for it in letters for letter in it} == {word(kind) for kind in (1, 2, 3, 4)}
 
 
 # ---- What goes over threads and processes

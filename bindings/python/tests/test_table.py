@@ -1,5 +1,6 @@
 """Tests of the lock manager: its calls, threads at random graphs, tasks, and runs."""
 import asyncio
+import pickle
 import random
 import threading
 import time
@@ -85,6 +86,12 @@ def test_what_is_no_part_of_a_plan_is_refused_at_once():
         with pytest.raises(DineError) as refused:
             table.edge(*ends)
         assert (refused.value.cause, refused.value.where, refused.value.position) == (cause, "edge", 1)
+    with pytest.raises(DineError, match="^edge 'a', 'c': no worker has this name: 12 UnknownEnd at edge 1 ") as refused:
+        table.edge("a", "c")
+    assert str(pickle.loads(pickle.dumps(refused.value))) == str(refused.value)
+    with pytest.raises(DineError, match="^a table needs a worker: 8 NoSite ") as refused:
+        Table().open()
+    assert refused.value.cause is Cause.NoSite
     names = [table.worker(f"w{n}") for n in range(61)]
     with pytest.raises(DineError, match="TooManySites"):
         table.worker("w61")

@@ -1,5 +1,7 @@
 //! Two sites in two threads, which have nothing in common but a pair of sockets: `cargo run --example sites`.
-use dine::{Kind, Plan, Site};
+use dine::{run_number, Kind, Plan, Site};
+use std::collections::hash_map::RandomState;
+use std::hash::{BuildHasher, Hasher};
 use std::io::{Read, Write};
 use std::os::unix::net::UnixStream;
 
@@ -8,7 +10,7 @@ const PLAN: &str = "version = 1\n[[site]]\nname = \"a\"\njobs = [{ name = \"x\" 
 
 type Result<T> = std::result::Result<T, Box<dyn std::error::Error + Send + Sync>>;
 
-// A letter has at most 21 bytes and does not say how many, so its length goes before it.
+// A letter has at most 29 bytes and does not say how many, so its length goes before it.
 fn send(mut socket: &UnixStream, letter: &[u8]) -> Result<()> {
     socket.write_all(&[letter.len() as u8])?;
     Ok(socket.write_all(letter)?)
@@ -22,8 +24,8 @@ fn receive(mut socket: &UnixStream) -> Result<Vec<u8>> {
     Ok(letter)
 }
 
-fn run(number: u32, neighbour: &UnixStream) -> Result<String> {
-    let mut site = Site::open(&Plan::read(PLAN)?, number)?;
+fn run(number: u32, random: u64, neighbour: &UnixStream) -> Result<String> {
+    let mut site = Site::open_in(&Plan::read(PLAN)?, number, run_number(PLAN, random))?;
     while !site.is_finished() {
         match site.next() {
             // It can do nothing before the next letter.
@@ -46,8 +48,10 @@ fn run(number: u32, neighbour: &UnixStream) -> Result<String> {
 
 fn main() -> Result<()> {
     let (one, other) = UnixStream::pair()?;
-    let thread = std::thread::spawn(move || run(1, &other));
-    println!("{}", run(0, &one)?);
+    // Drawn once for the run, and known to both. The standard library has no random numbers but these.
+    let random = RandomState::new().build_hasher().finish();
+    let thread = std::thread::spawn(move || run(1, random, &other));
+    println!("{}", run(0, random, &one)?);
     println!("{}", thread.join().expect("no panic")?);
     Ok(())
 }

@@ -3,11 +3,13 @@
 //! - [`Table`] is a lock manager: workers share a value at each edge, and any thread eats for any worker.
 //! - [`World`] has all sites of a plan in one thread, and is stepped event by event.
 //! - [`Site`] is one site, whose letters are bytes: carry them to the neighbour, in order, by any means.
+//! - [`PlanBuilder`] makes the plan of a world or of sites by calls, and [`Plan::read`] of a text.
 //!
 //! The library is linked as `libdine.a`, or compiled from C: see `docs/BINDINGS.md`. Its rules are proved; this crate
 //! is only tested.
 #![warn(missing_docs)]
 
+mod builder;
 mod causes;
 mod open;
 mod run;
@@ -17,14 +19,17 @@ mod sys;
 mod table;
 
 /// No letter has more bytes.
-pub const LETTER_MAX: usize = 21;
+pub const LETTER_MAX: usize = 29;
 
-// The first byte of a letter that is Close.
+// Where the kind of a letter is, behind the number of its run. Its edge follows.
+const KIND_AT: usize = 8;
+// The kind of Close.
 const CLOSE: u8 = 4;
 
 use std::cell::UnsafeCell;
 use std::fmt;
 
+pub use builder::PlanBuilder;
 pub use causes::Cause;
 pub use open::{AsyncMeal, Closed, LockFuture, Meal, OpenTable, Stay};
 pub use run::{Done, Watch};
@@ -46,7 +51,7 @@ pub enum Error {
     NoLetter(LetterFault),
     /// The rules do not allow this letter now, for this reason.
     Breach(Breach),
-    /// The text is no plan, or the workers and edges of a table are none, for this reason.
+    /// The text is no plan, or what a builder or a table would have is none, for this reason.
     NoPlan(Refusal),
     /// A worker or an edge is of another table.
     OtherTable,
@@ -56,6 +61,8 @@ pub enum Error {
     InMeal,
     /// A job panicked while it had a value of this worker.
     Poisoned,
+    /// No journals were kept: [`Table::keep_journals`].
+    NoJournals,
     /// The table is broken, since an allocation of the library failed.
     Gone,
     /// Another answer, which should not come.
@@ -67,12 +74,14 @@ pub enum Error {
 pub enum LetterFault {
     /// There are too few bytes, or too many.
     Length,
-    /// The first byte is no kind.
+    /// The byte behind the number of the run is no kind.
     Kind,
     /// The neighbour cannot have done that with the fork.
     Unlawful,
     /// The letter is of an edge that the site does not have.
     Edge,
+    /// The letter is of another run.
+    OtherRun,
 }
 
 /// Why the rules do not allow a letter now.
@@ -92,7 +101,7 @@ pub enum Breach {
     ClosedEarly,
 }
 
-/// Why a text is no plan.
+/// Why a text, or what calls describe, is no plan.
 #[derive(Clone, Copy, Debug, PartialEq, Eq)]
 pub struct Refusal {
     /// The first cause that holds.
@@ -144,6 +153,7 @@ impl fmt::Display for Error {
             Error::NoSuch => f.write_str("there is no such site, edge, place or event, or its fork is elsewhere"),
             Error::Memory => f.write_str("an allocation failed"),
             Error::Eating => f.write_str("the site eats"),
+            Error::NoLetter(LetterFault::OtherRun) => f.write_str("the letter is of another run"),
             Error::NoLetter(it) => write!(f, "the bytes are no letter: {it:?}"),
             Error::Breach(it) => write!(f, "the rules do not allow this letter now: {it:?}"),
             Error::NoPlan(refusal) => write!(f, "no plan: {refusal}. {}", refusal.cause.words()),
@@ -151,6 +161,7 @@ impl fmt::Display for Error {
             Error::Closed => f.write_str("the table is closed"),
             Error::InMeal => f.write_str("this thread eats at this table already"),
             Error::Poisoned => f.write_str("a job panicked while it had a value of this worker"),
+            Error::NoJournals => f.write_str("no journals were kept: Table::keep_journals"),
             Error::Gone => f.write_str("the table is broken, since an allocation failed"),
             Error::Other(n) => write!(f, "status {n}"),
         }
@@ -173,6 +184,7 @@ fn answer(status: i64) -> Result<u64> {
         -12 => Err(Error::NoLetter(LetterFault::Kind)),
         -13 => Err(Error::NoLetter(LetterFault::Unlawful)),
         -14 => Err(Error::NoLetter(LetterFault::Edge)),
+        -15 => Err(Error::NoLetter(LetterFault::OtherRun)),
         -21 => Err(Error::Breach(Breach::AfterClose)),
         -22 => Err(Error::Breach(Breach::RequestOutOfTurn)),
         -23 => Err(Error::Breach(Breach::ForkOutOfTurn)),
@@ -184,6 +196,28 @@ fn answer(status: i64) -> Result<u64> {
             None => Error::Other(status),
         }),
     }
+}
+
+/// The edge that a letter names; `None` if the bytes are too few for a letter.
+pub fn edge_of(letter: &[u8]) -> Option<u32> {
+    let bytes = letter.get(KIND_AT + 1..KIND_AT + 5)?;
+    Some(u32::from_le_bytes(bytes.try_into().ok()?))
+}
+
+/// A number for a run of the plan with this text, for [`Site::open_in`]. `random` is drawn once for each run, and all
+/// processes of the run are told it. A process that has another text, or was told of another run, has another number,
+/// unless chance has it. It is FNV-1a of the eight bytes of `random`, the least first, and of the text: no defence
+/// against whoever means harm.
+///
+/// ```
+/// use dine::run_number;
+/// assert_eq!(run_number("version = 1\n", 1984), 0x3dce_6814_d6b7_2b26);
+/// assert_ne!(run_number("version = 1\n", 1984), run_number("version = 1\n", 1985));
+/// assert_ne!(run_number("version = 1\n", 1984), run_number("version = 2\n", 1984));
+/// ```
+pub fn run_number(text: &str, random: u64) -> u64 {
+    let bytes = random.to_le_bytes().into_iter().chain(text.bytes());
+    bytes.fold(0xcbf2_9ce4_8422_2325, |sum, byte| (sum ^ u64::from(byte)).wrapping_mul(0x0100_0000_01b3))
 }
 
 /// What a site does in an event. A number is a place.
@@ -325,7 +359,7 @@ impl Drop for Handle {
     }
 }
 
-/// A plan: sites with their jobs, and edges.
+/// A plan: sites with their jobs, and edges. It is read from a text, or built by a [`PlanBuilder`].
 ///
 /// ```
 /// let plan = dine::Plan::read("version = 1\n[[site]]\nname = \"a\"\njobs = []\n")?;
@@ -555,10 +589,17 @@ pub struct Site {
 }
 
 impl Site {
-    /// Opens the site with this number before its first event.
+    /// Opens the site with this number before its first event, in the run 0. For sites in processes [`Site::open_in`] is
+    /// the better call.
     pub fn open(plan: &Plan, site: u32) -> Result<Site> {
+        Site::open_in(plan, site, 0)
+    }
+
+    /// Opens the site in the run with this number. All sites of a run are opened with one number, and each run has
+    /// another: [`run_number`] makes one. A site refuses the letters of other runs, before it looks at anything else.
+    pub fn open_in(plan: &Plan, site: u32, run: u64) -> Result<Site> {
         let handle = Handle::closed();
-        answer(unsafe { sys::dine_site_open(plan.handle.get(), site, handle.get()) })?;
+        answer(unsafe { sys::dine_site_open_in(plan.handle.get(), site, run, handle.get()) })?;
         let room = vec![0; LETTER_MAX].into_boxed_slice();
         Ok(Site { handle, room, broken: Vec::new(), closed: Vec::new() })
     }
@@ -651,8 +692,8 @@ impl Site {
     /// Takes a letter, also while the site eats. If the bytes are no letter that is allowed now, nothing changes.
     pub fn take(&mut self, letter: &[u8]) -> Result<()> {
         answer(unsafe { sys::dine_site_take(self.handle.get(), letter.as_ptr(), letter.len()) })?;
-        if let [CLOSE, edge @ ..] = letter {
-            self.closed.extend(<[u8; 4]>::try_from(edge).map(u32::from_le_bytes));
+        if letter.get(KIND_AT) == Some(&CLOSE) {
+            self.closed.extend(edge_of(letter));
         }
         Ok(())
     }

@@ -41,6 +41,51 @@ pub struct Place {
 }
 
 extern "C" {
+    pub fn dine_plan_builder_open(
+        handle: *mut Handle,
+    ) -> i64;
+    pub fn dine_plan_builder_site(
+        handle: *mut Handle,
+        name: *const u8,
+        name_len: usize,
+        jobs: u32,
+    ) -> i64;
+    pub fn dine_plan_builder_edge(
+        handle: *mut Handle,
+        a: u32,
+        b: u32,
+    ) -> i64;
+    pub fn dine_plan_builder_value(
+        handle: *mut Handle,
+        edge: u32,
+        value: u32,
+    ) -> i64;
+    pub fn dine_plan_builder_resign(
+        handle: *mut Handle,
+        site: u32,
+    ) -> i64;
+    pub fn dine_plan_builder_turns(
+        handle: *mut Handle,
+        site: u32,
+        k: u32,
+        turns: u32,
+    ) -> i64;
+    pub fn dine_plan_builder_fails(
+        handle: *mut Handle,
+        site: u32,
+        k: u32,
+    ) -> i64;
+    pub fn dine_plan_builder_act(
+        handle: *mut Handle,
+        site: u32,
+        k: u32,
+        sets: bool,
+        amount: u32,
+    ) -> i64;
+    pub fn dine_plan_builder_finish(
+        builder: *mut Handle,
+        plan: *mut Handle,
+    ) -> i64;
     pub fn dine_plan_open(
         text: *const u8,
         text_len: usize,
@@ -82,6 +127,12 @@ extern "C" {
     pub fn dine_site_open(
         plan: *mut Handle,
         number: u32,
+        site: *mut Handle,
+    ) -> i64;
+    pub fn dine_site_open_in(
+        plan: *mut Handle,
+        number: u32,
+        run: u64,
         site: *mut Handle,
     ) -> i64;
     pub fn dine_site_state(

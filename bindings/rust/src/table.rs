@@ -3,7 +3,7 @@
 //! It is a value like any other. It refuses what cannot be part of a plan at the call that asks for it, so that `open`
 //! and `run` fail for want of memory only, or because an edge has a worker of another table.
 
-use crate::{Cause, Error, Position, Refusal, Result};
+use crate::{Cause, Error, Plan, PlanBuilder, Position, Refusal, Result};
 use std::sync::atomic::{AtomicU64, Ordering};
 
 // The most workers and edges of a plan, and the longest name.
@@ -76,17 +76,22 @@ impl Graph {
         self.ends.iter().position(joins).map(|number| self.edge_ids[number])
     }
 
-    // The text of the plan. A site with jobs left may give them up after one that fails.
-    pub fn text(&self, jobs: impl Fn(usize) -> String) -> String {
-        let mut text = String::from("version = 2\n");
+    // The plan, with a number of jobs for each site, one of which may fail, by its number from 1. A site with jobs left
+    // may give them up after one that fails.
+    pub fn plan(&self, jobs: impl Fn(usize) -> (u32, Option<u32>)) -> Result<Plan> {
+        let mut builder = PlanBuilder::new()?;
         for (at, name) in self.names.iter().enumerate() {
-            text += &format!("[[site]]\nname = \"{name}\"\njobs = [{}]\non_fault = \"resign\"\n", jobs(at));
+            let (count, fails) = jobs(at);
+            let site = builder.site(name, count)?;
+            builder.resign(site)?;
+            if let Some(k) = fails {
+                builder.fails(site, k)?;
+            }
         }
         for (one, other) in &self.ends {
-            let name = |it: &WorkerId| &self.names[it.number as usize];
-            text += &format!("[[edge]]\nends = [\"{}\", \"{}\"]\n", name(one), name(other));
+            builder.edge(one.number, other.number)?;
         }
-        text
+        builder.finish()
     }
 
     fn refusal_of_worker(&self, name: &str) -> Option<Cause> {

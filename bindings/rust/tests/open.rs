@@ -322,7 +322,7 @@ fn the_log_keeps_the_last_stays() {
     assert_eq!(closed.log(e).len(), 3);
     assert!([a, b].iter().all(|it| last(*it).first + last(*it).count == all(*it) + 1));
     assert_eq!((closed.ate(a), closed.ate(b)), (5, 10));
-    assert_eq!(closed.order(), Err(Error::NoSuch));
+    assert_eq!(closed.order(), Err(Error::NoJournals));
 }
 
 #[test]

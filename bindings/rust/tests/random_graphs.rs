@@ -164,13 +164,16 @@ fn stress(case: &Case) -> (u64, u64, u64) {
     let shared = Shared { case, open, workers, sum: AtomicU64::new(0) };
     let start = Barrier::new(case.threads);
     std::thread::scope(|scope| {
-        for t in 0..case.threads {
+        let spawn = |t| {
             let (shared, start) = (&shared, &start);
             scope.spawn(move || {
                 start.wait();
                 shared.thread(t);
-            });
-        }
+            })
+        };
+        // They are joined one by one, since sanitizers do not see how a scope waits for its end.
+        let threads: Vec<_> = (0..case.threads).map(spawn).collect();
+        threads.into_iter().for_each(|it| it.join().unwrap());
     });
     let closed = shared.open.close().unwrap();
     let mut meals = 0;

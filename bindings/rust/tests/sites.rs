@@ -1,5 +1,5 @@
 //! Tries plans, worlds and sites by a pair.
-use dine::{Breach, Cause, Error, Event, Kind, LetterFault, Period, Phase, Place, Plan, Position, Site, World};
+use dine::{edge_of, Breach, Cause, Error, Event, Kind, LetterFault, Period, Phase, Place, Plan, Position, Site, World};
 
 const PAIR: &str = "version = 1\n[[site]]\nname = \"a\"\njobs = [{ name = \"x\" }]\n\
     [[site]]\nname = \"b\"\njobs = [{ name = \"y\" }]\n[[edge]]\nends = [\"a\", \"b\"]\n";
@@ -163,27 +163,66 @@ fn a_job_that_failed_and_quitting() {
     }
 }
 
+// The first bytes of a letter of the run 0: all of it, if it is no Fork.
+fn word(kind: u8, edge: u8) -> [u8; 13] {
+    let mut letter = [0; 13];
+    (letter[8], letter[9]) = (kind, edge);
+    letter
+}
+
+#[test]
+fn a_late_letter_of_an_older_run() {
+    let plan = Plan::read(PAIR).unwrap();
+    for (older, run) in [(0, 0), (7, 7), (0, 1), (u64::MAX, 0), (1, 1 << 63 | 1)] {
+        let open = |run| [0, 1].map(|n| Site::open_in(&plan, n, run).unwrap());
+        let [mut a, mut b] = open(older);
+        b.act(Kind::Hungry).unwrap();
+        a.take(b.act(Kind::Ask(0)).unwrap()).unwrap();
+        let late = a.act(Kind::Give(0)).unwrap().to_vec();
+        assert_eq!((&late[..8], edge_of(&late), edge_of(&late[..12])), (&older.to_le_bytes()[..], Some(0), None));
+        // In the next run a eats, and b waits for the fork. The late one would let it eat too.
+        let [mut a, mut b] = open(run);
+        a.act(Kind::Hungry).unwrap();
+        a.begin().unwrap();
+        b.act(Kind::Hungry).unwrap();
+        a.take(b.act(Kind::Ask(0)).unwrap()).unwrap();
+        if older == run {
+            b.take(&late).unwrap();
+            b.begin().unwrap();
+            assert_eq!((a.phase(), b.phase()), (Phase::Eating, Phase::Eating));
+        } else {
+            assert_eq!(b.take(&late), Err(Error::NoLetter(LetterFault::OtherRun)));
+            assert_eq!((b.begin(), a.phase(), b.phase()), (Err(Error::NotNow), Phase::Eating, Phase::Hungry));
+            a.end(false).unwrap();
+            b.take(a.act(Kind::Give(0)).unwrap()).unwrap();
+            b.begin().unwrap();
+        }
+    }
+    assert_eq!(Error::NoLetter(LetterFault::OtherRun).to_string(), "the letter is of another run");
+}
+
 #[test]
 fn each_letter_that_is_refused_by_name() {
     let plan = Plan::read(PAIR).unwrap();
     let (mut a, mut b) = (Site::open(&plan, 0).unwrap(), Site::open(&plan, 1).unwrap());
     let fault = |it| Err(Error::NoLetter(it));
     let breach = |it| Err(Error::Breach(it));
-    assert_eq!((a.take(&[]), a.take(&[2; 22])), (fault(LetterFault::Length), fault(LetterFault::Length)));
-    assert_eq!(a.take(&[9, 0, 0, 0, 0]), fault(LetterFault::Kind));
-    assert_eq!(a.take(&[2, 7, 0, 0, 0]), fault(LetterFault::Edge));
+    assert_eq!((a.take(&[]), a.take(&word(2, 0)[..12])), (fault(LetterFault::Length), fault(LetterFault::Length)));
+    assert_eq!(a.take(&[2; 22]), fault(LetterFault::OtherRun));
+    assert_eq!(a.take(&word(9, 0)), fault(LetterFault::Kind));
+    assert_eq!(a.take(&word(2, 7)), fault(LetterFault::Edge));
     b.act(Kind::Hungry).unwrap();
     let request = b.act(Kind::Ask(0)).unwrap().to_vec();
-    assert_eq!(request, [2, 0, 0, 0, 0]);
+    assert_eq!(request, word(2, 0));
     a.take(&request).unwrap();
     assert_eq!(a.take(&request), breach(Breach::RequestOutOfTurn));
     let fork = a.act(Kind::Give(0)).unwrap().to_vec();
-    assert_eq!((fork.len(), &fork[..5]), (21, &[1, 0, 0, 0, 0][..]));
+    assert_eq!((fork.len(), &fork[..13]), (29, &word(1, 0)[..]));
     let mut unlawful = fork.clone();
-    unlawful[9] = 5;
+    unlawful[17] = 5;
     assert_eq!(b.take(&unlawful), fault(LetterFault::Unlawful));
     assert_eq!(a.take(&fork), breach(Breach::ForkOutOfTurn));
-    let (done, close) = ([3, 0, 0, 0, 0], [4, 0, 0, 0, 0]);
+    let (done, close) = (word(3, 0), word(4, 0));
     assert_eq!(b.take(&close), breach(Breach::ClosedEarly));
     b.take(&done).unwrap();
     assert_eq!(b.take(&done), breach(Breach::DoneOutOfTurn));
@@ -206,7 +245,7 @@ fn a_site_whose_neighbour_is_lost() {
     let plan = Plan::read(PAIR).unwrap();
     let mut b = Site::open(&plan, 1).unwrap();
     assert!(b.act(Kind::Close(0)).is_err() && !b.is_stuck());
-    assert_eq!(b.break_off(0), Ok(&[4, 0, 0, 0, 0][..]));
+    assert_eq!(b.break_off(0), Ok(&word(4, 0)[..]));
     assert!(b.is_stuck() && b.break_off(0).is_err());
     // The fork is here, so the meals can be eaten. Then nothing is left, and the site is not finished.
     let mut a = Site::open(&plan, 0).unwrap();

@@ -351,6 +351,7 @@ module _ (state : LocalState) (own : SeenOwnSite) (is : StandsFor state own) (i 
   fault_refusal : AwaitsFork plan own.core i note → (r : ℤ) (kept : SeenFork) → kept_at i own.shelf ≡ Some kept → (f : WireFault) → r ≡ wire_status f → DoesNotArrive plan kept note f → ForkRefuses i note r state own
   fault_refusal awaits r kept shelf fault.Length status never = absurd never
   fault_refusal awaits r kept shelf fault.Kind status never = absurd never
+  fault_refusal awaits r kept shelf fault.OtherRun status never = absurd never
   fault_refusal awaits r kept shelf fault.Unlawful status none = unlawful_refusal awaits r status kept shelf none
   fault_refusal awaits r kept shelf fault.Memory status one = carried_refusal awaits r status kept shelf one.0 one.1
 

@@ -1,5 +1,6 @@
 pub mod Arrived
 pub mod AsBox
+pub mod Built
 pub mod FirstKept
 pub mod ListsOfCalls
 pub mod NotTaken

@@ -19,7 +19,7 @@ use Rattle.dine_ffi.proofs.Standing.{begin_call, end_call, hungry_call, opened_s
 -- a call that did not refuse did the step that it names
 record DidStep (call : Call) (old new : SeenOwnSite) : Type 0 where
   did : Step
-  names : IsStepOf old.plan old.core.site call did
+  names : IsStepOf old.plan old.run old.core.site call did
   steps : OwnSteps did old new
 
 -- a call for an event of this kind did its step
@@ -82,23 +82,24 @@ did_nothing (Put kind i) n state old new stands is = is.2.0
 did_nothing (Act event) n state old new stands is = act_did_nothing event is.0 is.1 n old new is.2 (cases_eq event.site old.core.site)
 did_nothing (Take bytes) n state old new stands is = (is.outcome state stands).0
 
-abbrev Leads : SeenPlan → ℕ → List (Call × ℤ) → LocalState → SeenOwnSite → Type 0
-Leads plan s calls start new = (steps : List Step) × (state : LocalState) × AreStepsOf plan s calls steps × StepsLead plan s steps start state × StandsFor state new
+abbrev Leads : SeenPlan → ℕ → ℕ → List (Call × ℤ) → LocalState → SeenOwnSite → Type 0
+Leads plan run s calls start new = (steps : List Step) × (state : LocalState) × AreStepsOf plan run s calls steps × StepsLead plan s steps start state × StandsFor state new
 
-lead : (plan : SeenPlan) (s : ℕ) (calls : List (Call × ℤ)) (state : LocalState) (old new : SeenOwnSite) → old.plan ≡ plan → old.core.site ≡ s → StandsFor state old → CallsLead calls old new → Leads plan s calls state new
-lead plan s [] state old new same_plan same_site stands is = ([], state, refl, refl, subst (StandsFor state) (sym is) stands)
-lead plan s ((call, pos n) ∷ calls) state old new same_plan same_site stands is =
+lead : (plan : SeenPlan) (run s : ℕ) (calls : List (Call × ℤ)) (state : LocalState) (old new : SeenOwnSite) → old.plan ≡ plan → old.run ≡ run → old.core.site ≡ s → StandsFor state old → CallsLead calls old new → Leads plan run s calls state new
+lead plan run s [] state old new same_plan same_run same_site stands is = ([], state, refl, refl, subst (StandsFor state) (sym is) stands)
+lead plan run s ((call, pos n) ∷ calls) state old new same_plan same_run same_site stands is =
     let one = did_step call n old is.0 is.1 in
     let own = one.steps state stands in
     let next : LocalState = after old.plan old.core.site state one.did in
-    let rest = lead plan s calls next is.0 new (own.plan ∙ same_plan) (own.site ∙ same_site) own.stands is.2 in
-    let names : IsStepOf plan s call one.did = subst (λ (p : SeenPlan). IsStepOf p s call one.did) same_plan (subst (λ (x : ℕ). IsStepOf old.plan x call one.did) same_site one.names) in
+    let rest = lead plan run s calls next is.0 new (own.plan ∙ same_plan) (own.run ∙ same_run) (own.site ∙ same_site) own.stands is.2 in
+    let names : IsStepOf plan run s call one.did = subst (λ (p : SeenPlan). IsStepOf p run s call one.did) same_plan
+    (subst (λ (r : ℕ). IsStepOf old.plan r s call one.did) same_run (subst (λ (x : ℕ). IsStepOf old.plan old.run x call one.did) same_site one.names)) in
     let step_is : LocalStep plan s state one.did next = subst (λ (p : SeenPlan). LocalStep p s state one.did next) same_plan
     (subst (λ (x : ℕ). LocalStep old.plan x state one.did next) same_site (record { needs = own.allowed; changes = refl })) in
     (one.did ∷ rest.0, rest.1, (names, rest.2), (next, step_is, rest.3), rest.4)
-lead plan s ((call, negsuc n) ∷ calls) state old new same_plan same_site stands is =
-    lead plan s calls state old new same_plan same_site stands
+lead plan run s ((call, negsuc n) ∷ calls) state old new same_plan same_run same_site stands is =
+    lead plan run s calls state old new same_plan same_run same_site stands
     (subst (λ (x : SeenOwnSite). CallsLead calls x new) (did_nothing call n state old is.0 stands is.1) is.2)
 
-pub from_opened : (plan : SeenPlan) (number : ℕ) (opened own : SeenOwnSite) (calls : List (Call × ℤ)) → IsOpened plan number opened → CallsLead calls opened own → Leads plan number calls (start_of plan number) own
-from_opened plan number opened own calls is lead_there = lead plan number calls (start_of plan number) opened own is.plan_is is.site (opened_stands plan number opened is) lead_there
+pub from_opened : (plan : SeenPlan) (run number : ℕ) (opened own : SeenOwnSite) (calls : List (Call × ℤ)) → IsOpened plan run number opened → CallsLead calls opened own → Leads plan run number calls (start_of plan number) own
+from_opened plan run number opened own calls is lead_there = lead plan run number calls (start_of plan number) opened own is.plan_is is.run_is is.site (opened_stands plan run number opened is) lead_there

@@ -2,6 +2,7 @@
 use Rattle.std.proofs.Common.{◌≡◌, ◌⊎◌, inl, inr, subst, ℕ, ℤ, pos, Option, Some, None, MatchOption, option_map, refl, sym, ◌∙◌, ap}
 use Rattle.std.proofs.lemmas.Option.{same_Some}
 use Rattle.dine_graph.specs.Plan.{SeenPlan}
+use Rattle.dine_builder.specs.Draft.{Draft}
 use Rattle.dine_core.specs.Worlds.{SeenWorld}
 use Rattle.dine_ffi.specs.Answers.{no_such, other_kind}
 use Rattle.dine_ffi.specs.OwnSites.{SeenOwnSite}
@@ -17,7 +18,8 @@ pub none_answer : {S A : Type 0} (o : Option S) (f : S → A) (g : A → ℕ) �
 none_answer None f g is = refl
 none_answer (Some s) f g is = absurd cc
 
--- what is returned of a plan or a site, where a world is asked for
-pub no_world : (k : Kept) (r : ℤ) (P : SeenWorld → Type 0) → ((x : SeenPlan) × (k ≡ kept.Plan x)) ⊎ ((x : SeenOwnSite) × (k ≡ kept.Site x)) → r ≡ other_kind → OfWorld k r P
+-- what is returned of a plan, a site or a builder, where a world is asked for
+pub no_world : (k : Kept) (r : ℤ) (P : SeenWorld → Type 0) → ((x : SeenPlan) × (k ≡ kept.Plan x)) ⊎ (((x : SeenOwnSite) × (k ≡ kept.Site x)) ⊎ ((x : Draft) × (k ≡ kept.Builder x))) → r ≡ other_kind → OfWorld k r P
 no_world k r P (inl w) is = subst (λ (x : Kept). OfWorld x r P) (sym w.1) is
-no_world k r P (inr w) is = subst (λ (x : Kept). OfWorld x r P) (sym w.1) is
+no_world k r P (inr (inl w)) is = subst (λ (x : Kept). OfWorld x r P) (sym w.1) is
+no_world k r P (inr (inr w)) is = subst (λ (x : Kept). OfWorld x r P) (sym w.1) is

@@ -62,7 +62,7 @@ meal_forks plan s state meal is = elim (cases_Bool (is_eating state.phase)) [
 
 -- ---- a step
 
-module _ (state : LocalState) (old new : SeenOwnSite) (is : StandsFor state old) (same_plan : new.plan ≡ old.plan) where
+module _ (state : LocalState) (old new : SeenOwnSite) (is : StandsFor state old) (same_plan : new.plan ≡ old.plan) (same_run : new.run ≡ old.run) where
   abbrev plan : SeenPlan
   plan = old.plan
 
@@ -75,6 +75,7 @@ module _ (state : LocalState) (old new : SeenOwnSite) (is : StandsFor state old)
       record {
         allowed = did.allowed.needs;
         plan = same_plan;
+        run = same_run;
         site = did.site;
         stands = record {
           core = subst (λ (p : SeenPlan). Refines p next new.core) (sym same_plan) did.stands;
@@ -258,8 +259,8 @@ start_stands own core meal shelf =
 
 -- ---- the calls
 
-pub opened_stands : (plan : SeenPlan) (number : ℕ) (own : SeenOwnSite) → IsOpened plan number own → StandsFor (start_of plan number) own
-opened_stands plan number own is =
+pub opened_stands : (plan : SeenPlan) (run number : ℕ) (own : SeenOwnSite) → IsOpened plan run number own → StandsFor (start_of plan number) own
+opened_stands plan run number own is =
     subst (λ (s : ℕ). StandsFor (start_of plan s) own) is.site (subst (λ (p : SeenPlan). StandsFor (start_of p own.core.site) own) is.plan_is
     (start_stands own
     (subst (λ (p : SeenPlan). Refines p (start_of p own.core.site) own.core) (sym is.plan_is) is.fresh.stands) is.meal
@@ -268,19 +269,19 @@ opened_stands plan number own is =
 pub hungry_call : (old new : SeenOwnSite) → SiteSteps step.Hungry old new → OwnSteps step.Hungry old new
 hungry_call old new did state is =
     let awake : is_eating state.phase ≡ false = thinking_awake state.phase (and_parts _ _ (and_parts _ _ (did.core old.plan state is.keeps is.core).allowed.needs).0).0 in
-    hungry_step state old new is did.plan did.core (did.meal ∙ is.meal ∙ meal_none old.plan old.core.site state awake) did.shelf
+    hungry_step state old new is did.plan did.run did.core (did.meal ∙ is.meal ∙ meal_none old.plan old.core.site state awake) did.shelf
 
 pub quit_call : (old new : SeenOwnSite) → SiteSteps step.Quit old new → OwnSteps step.Quit old new
 quit_call old new did state is =
     let awake : is_eating state.phase ≡ false = thinking_awake state.phase (and_parts _ _ (did.core old.plan state is.keeps is.core).allowed.needs).0 in
-    quit_step state old new is did.plan did.core (did.meal ∙ is.meal ∙ meal_none old.plan old.core.site state awake) did.shelf
+    quit_step state old new is did.plan did.run did.core (did.meal ∙ is.meal ∙ meal_none old.plan old.core.site state awake) did.shelf
 
 pub begin_call : (old new : SeenOwnSite) → SiteBegins old new → OwnSteps step.Begin old new
-begin_call old new did state is = begin_step state old new is did.plan did.core did.begun did.meal did.fits (did.forks old.plan state is.keeps is.core) did.shelf
+begin_call old new did state is = begin_step state old new is did.plan did.run did.core did.begun did.meal did.fits (did.forks old.plan state is.keeps is.core) did.shelf
 
 pub end_call : (failed : Bool) (old new : SeenOwnSite) → SiteEnds failed old new → OwnSteps (step.End failed) old new
 end_call failed old new did state is =
-    end_step state old new is did.plan failed (did.core old.plan state is.keeps is.core (meal_forks old.plan old.core.site state did.ended (sym did.was ∙ is.meal))) did.meal did.shelf
+    end_step state old new is did.plan did.run failed (did.core old.plan state is.keeps is.core (meal_forks old.plan old.core.site state did.ended (sym did.was ∙ is.meal))) did.meal did.shelf
 
 put_within : (plan : SeenPlan) (s : ℕ) (state : LocalState) (k : PutKind) (i : ℕ) → may plan s state (step_of_put k i) ≡ true → i < length state.traffic
 put_within plan s state kind.Give i h = within_of i (length state.traffic) _ h
@@ -293,10 +294,10 @@ pub put_call : (k : PutKind) (i : ℕ) (l : Letter) (old new : SeenOwnSite) → 
 put_call k i l old new did state is =
     let awake : is_eating state.phase ≡ false = sym (ap is_eating is.core.phase) ∙ did.awake in
     let within = put_within old.plan old.core.site state k i (did.core old.plan state is.keeps is.core).1.allowed.needs in
-    put_step state old new is did.plan i l within (step_of_put k i) did.core awake (did.meal ∙ is.meal ∙ meal_none old.plan old.core.site state awake) did.shelf
+    put_step state old new is did.plan did.run i l within (step_of_put k i) did.core awake (did.meal ∙ is.meal ∙ meal_none old.plan old.core.site state awake) did.shelf
 
 pub take_call : (bytes : List ℕ) (i : ℕ) (l : Letter) (old new : SeenOwnSite) → SiteTakes bytes i l old new → OwnSteps (step.Take i l) old new
-take_call bytes i (Fork fork) old new did state is = fork_step state old new is did.plan i (Fork fork) (within_of i (length state.traffic) _ (did.core old.plan state is.keeps is.core).allowed.needs) fork refl did.core did.meal did.shelf
-take_call bytes i (Request e) old new did state is = word_step state old new is did.plan i (Request e) (within_of i (length state.traffic) _ (did.core old.plan state is.keeps is.core).allowed.needs) refl did.core did.meal did.shelf
-take_call bytes i Done old new did state is = word_step state old new is did.plan i Done (within_of i (length state.traffic) _ (did.core old.plan state is.keeps is.core).allowed.needs) refl did.core did.meal did.shelf
-take_call bytes i Close old new did state is = word_step state old new is did.plan i Close (within_of i (length state.traffic) _ (did.core old.plan state is.keeps is.core).allowed.needs) refl did.core did.meal did.shelf
+take_call bytes i (Fork fork) old new did state is = fork_step state old new is did.plan did.run i (Fork fork) (within_of i (length state.traffic) _ (did.core old.plan state is.keeps is.core).allowed.needs) fork refl did.core did.meal did.shelf
+take_call bytes i (Request e) old new did state is = word_step state old new is did.plan did.run i (Request e) (within_of i (length state.traffic) _ (did.core old.plan state is.keeps is.core).allowed.needs) refl did.core did.meal did.shelf
+take_call bytes i Done old new did state is = word_step state old new is did.plan did.run i Done (within_of i (length state.traffic) _ (did.core old.plan state is.keeps is.core).allowed.needs) refl did.core did.meal did.shelf
+take_call bytes i Close old new did state is = word_step state old new is did.plan did.run i Close (within_of i (length state.traffic) _ (did.core old.plan state is.keeps is.core).allowed.needs) refl did.core did.meal did.shelf

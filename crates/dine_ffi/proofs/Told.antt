@@ -6,7 +6,8 @@ use Rattle.dine_rules.specs.declared.letters.Letter.TheVariants as letter
 use Rattle.dine_rules.specs.Local.{edge_at}
 use Rattle.dine_rules.specs.Steps as step
 use Rattle.dine_wire.specs.Carried.{IsOfKept, letter_bytes}
-use Rattle.dine_wire.specs.Notes.{bytes_of, told_of}
+use Rattle.dine_wire.specs.Notes.{told_of}
+use Rattle.dine_wire.specs.Runs.{bytes_in_run}
 use Rattle.dine_wire.specs.declared.note.ForkNote.{ForkNote}
 use Rattle.dine_wire.specs.declared.note.Note.{Note}
 use Rattle.dine_wire.specs.declared.note.Told.{Told}
@@ -14,9 +15,9 @@ use Rattle.dine_wire.specs.declared.note.Told.TheVariants as told
 use Rattle.dine_ffi.specs.OwnSites.{SeenOwnSite, SiteSteps, SiteTakes, SiteTakesFork}
 use Rattle.dine_ffi.specs.Shelves.{kept_at, taken_off}
 
-module _ (bytes : List ℕ) (note : Note) (i : ℕ) (old new : SeenOwnSite) (read : bytes ≡ bytes_of note) (place : edge_at old.plan old.core.site i ≡ note.edge) where
-  bytes_are : (l : Letter) → note.told ≡ told_of l → bytes ≡ letter_bytes (edge_at old.plan old.core.site i) l
-  bytes_are l tells = read ∙ ap (λ (e : ℕ). bytes_of (record { edge = e; told = note.told })) (sym place) ∙ ap (λ (t : Told). bytes_of (record { edge = edge_at old.plan old.core.site i; told = t })) tells
+module _ (bytes : List ℕ) (note : Note) (i : ℕ) (old new : SeenOwnSite) (read : bytes ≡ bytes_in_run old.run note) (place : edge_at old.plan old.core.site i ≡ note.edge) where
+  bytes_are : (l : Letter) → note.told ≡ told_of l → bytes ≡ letter_bytes old.run (edge_at old.plan old.core.site i) l
+  bytes_are l tells = read ∙ ap (λ (e : ℕ). bytes_in_run old.run (record { edge = e; told = note.told })) (sym place) ∙ ap (λ (t : Told). bytes_in_run old.run (record { edge = edge_at old.plan old.core.site i; told = t })) tells
 
   pub fork_takes : (fork_note : ForkNote) (fork : SeenFork) → note.told ≡ told.Fork fork_note → SiteTakesFork i fork_note fork old new → SiteTakes bytes i (letter.Fork fork) old new
   fork_takes fork_note fork tells did = record {
@@ -24,6 +25,7 @@ module _ (bytes : List ℕ) (note : Note) (i : ℕ) (old new : SeenOwnSite) (rea
     core = did.core;
     shelf = did.shelf;
     plan = did.plan;
+    run = did.run;
     meal = did.meal;
   }
 
@@ -33,5 +35,6 @@ module _ (bytes : List ℕ) (note : Note) (i : ℕ) (old new : SeenOwnSite) (rea
     core = did.core;
     shelf = did.shelf ∙ sym same;
     plan = did.plan;
+    run = did.run;
     meal = did.meal;
   }

@@ -75,12 +75,12 @@ word_keeps_meal meal core new i l none (Err e) is steps own = subst (OwnMeal mea
 
 module _ (old : SeenOwnSite) (core : SeenCore) (i : ℕ) (l : Letter) where
   abbrev new : SeenOwnSite
-  new = record { plan = old.plan; core = core; meal = old.meal; shelf = old.shelf }
+  new = record { plan = old.plan; run = old.run; core = core; meal = old.meal; shelf = old.shelf }
 
   pub word_done : (taken : Result Unit (Letter × ℤ)) (result : ℤ) → MatchResult taken (λ u. result ≡ done) (λ e. result ≡ e.1) → Taken i l old.core core taken → result ≡ pos 0 → SiteSteps (step.Take i l) old new
-  word_done (Ok u) result is steps zero = record { core = steps; shelf = refl; plan = refl; meal = refl }
+  word_done (Ok u) result is steps zero = record { core = steps; shelf = refl; plan = refl; run = refl; meal = refl }
   word_done (Err e) result is steps zero = absurd (steps.2 (sym is ∙ zero))
 
   pub word_refused : (taken : Result Unit (Letter × ℤ)) (result : ℤ) → MatchResult taken (λ u. result ≡ done) (λ e. result ≡ e.1) → Taken i l old.core core taken → (result ≡ pos 0 → ⊥) → new ≡ old
   word_refused (Ok u) result is steps refused = absurd (refused is)
-  word_refused (Err e) result is steps refused = ap (λ (x : SeenCore). record { plan = old.plan; core = x; meal = old.meal; shelf = old.shelf }) steps.0
+  word_refused (Err e) result is steps refused = ap (λ (x : SeenCore). record { plan = old.plan; run = old.run; core = x; meal = old.meal; shelf = old.shelf }) steps.0

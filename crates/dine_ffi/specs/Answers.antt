@@ -53,6 +53,7 @@ wire_status fault.Length = negsuc 10
 wire_status fault.Kind = negsuc 11
 wire_status fault.Unlawful = negsuc 12
 wire_status fault.Memory = memory
+wire_status fault.OtherRun = negsuc 14
 
 -- the rules do not allow the letter: -20, less the number of its first breach
 abbrev pub breach_status : Breach → ℤ

@@ -53,22 +53,22 @@ step_of_act (Some (kinds.Ask i)) = Some (step.Ask i)
 step_of_act (Some (kinds.Done i)) = Some (step.Done i)
 step_of_act (Some (kinds.Close i)) = Some (step.Close i)
 
--- the step that the call names, at this site of the plan; a Take takes the letter whose bytes these are
-abbrev pub IsStepOf : SeenPlan → ℕ → Call → Step → Type 0
-IsStepOf plan s Hungry did = did ≡ step.Hungry
-IsStepOf plan s Begin did = did ≡ step.Begin
-IsStepOf plan s (End failed) did = did ≡ step.End failed
-IsStepOf plan s Quit did = did ≡ step.Quit
-IsStepOf plan s (Put kind i) did = did ≡ put_step kind i
-IsStepOf plan s (Act event) did = (event.site ≡ s) × (step_of_act (kind_numbered event.kind event.place) ≡ Some did)
-IsStepOf plan s (Take bytes) did = (i : ℕ) × (letter : Letter) × (did ≡ step.Take i letter) × (bytes ≡ letter_bytes (edge_at plan s i) letter)
+-- the step that the call names, at this site of the plan; a Take takes the letter of the run whose bytes these are
+abbrev pub IsStepOf : SeenPlan → ℕ → ℕ → Call → Step → Type 0
+IsStepOf plan run s Hungry did = did ≡ step.Hungry
+IsStepOf plan run s Begin did = did ≡ step.Begin
+IsStepOf plan run s (End failed) did = did ≡ step.End failed
+IsStepOf plan run s Quit did = did ≡ step.Quit
+IsStepOf plan run s (Put kind i) did = did ≡ put_step kind i
+IsStepOf plan run s (Act event) did = (event.site ≡ s) × (step_of_act (kind_numbered event.kind event.place) ≡ Some did)
+IsStepOf plan run s (Take bytes) did = (i : ℕ) × (letter : Letter) × (did ≡ step.Take i letter) × (bytes ≡ letter_bytes run (edge_at plan s i) letter)
 
 -- the steps are those of the calls that did not refuse, in order
-abbrev pub AreStepsOf : SeenPlan → ℕ → List (Call × ℤ) → List Step → Type 0
-AreStepsOf plan s [] steps = steps ≡ []
-AreStepsOf plan s ((call, pos n) ∷ calls) [] = ⊥
-AreStepsOf plan s ((call, pos n) ∷ calls) (did ∷ steps) = IsStepOf plan s call did × AreStepsOf plan s calls steps
-AreStepsOf plan s ((call, negsuc n) ∷ calls) steps = AreStepsOf plan s calls steps
+abbrev pub AreStepsOf : SeenPlan → ℕ → ℕ → List (Call × ℤ) → List Step → Type 0
+AreStepsOf plan run s [] steps = steps ≡ []
+AreStepsOf plan run s ((call, pos n) ∷ calls) [] = ⊥
+AreStepsOf plan run s ((call, pos n) ∷ calls) (did ∷ steps) = IsStepOf plan run s call did × AreStepsOf plan run s calls steps
+AreStepsOf plan run s ((call, negsuc n) ∷ calls) steps = AreStepsOf plan run s calls steps
 
 -- the rules allow the steps, one after the other, and they lead from the one state to the other
 abbrev pub StepsLead : SeenPlan → ℕ → List Step → LocalState → LocalState → Type 0

@@ -1,5 +1,7 @@
 pub mod Acts
 pub mod Answers
+pub mod BuilderCalls
+pub mod Builders
 pub mod Calls
 pub mod Events
 pub mod OwnSites

@@ -22,8 +22,8 @@ use Rattle.dine_site_core.specs.declared.site.places.ForkSlot.TheVariants as slo
 use Rattle.dine_site_core.specs.Standing.{CorePuts, CoreStep, CoreSteps, ForEachState, IsFreshFor, all_places}
 use Rattle.dine_core.specs.WorldSites.{meal_of}
 use Rattle.dine_wire.specs.Carried.{ArrivesWith, GoesOn, fork_for_next}
-use Rattle.dine_wire.specs.Faults.{IsNoNote}
-use Rattle.dine_wire.specs.Notes.{IsInBytes, bytes_of, fork_note}
+use Rattle.dine_wire.specs.Notes.{IsInBytes, fork_note}
+use Rattle.dine_wire.specs.Runs.{IsNoLetter, bytes_in_run, is_of_run}
 use Rattle.dine_wire.specs.declared.note.ForkNote.{ForkNote}
 use Rattle.dine_wire.specs.declared.note.Note.{Note}
 use Rattle.dine_wire.specs.declared.note.Told.{Told}
@@ -36,10 +36,11 @@ use Rattle.dine_ffi.specs.declared.event.DineEvent.{DineEvent}
 use Rattle.dine_ffi.specs.Shelves.{IsForkBreach, first_kept, kept_at, put_away, taken_off}
 use Rattle.dine_ffi.specs.Written.{AreWritten}
 
--- the plan; the core of the site; its meal, if it eats; and for each place the fork that it keeps for the next Fork
--- there, if the fork is not here
+-- the plan; the number of the run; the core of the site; its meal, if it eats; and for each place the fork that it
+-- keeps for the next Fork there, if the fork is not here
 pub record SeenOwnSite : Type 0 where
   pub plan : SeenPlan
+  pub run : ℕ
   pub core : SeenCore
   pub meal : Option SeenMeal
   pub shelf : List (Option SeenFork)
@@ -60,11 +61,12 @@ pub record StandsFor (state : LocalState) (own : SeenOwnSite) : Type 0 where
   pub shelf : IsShelfOf own.plan own.core.site state own.shelf
 
 -- The site did the step. The state allowed it, and the site represents the state after it. It is the same site of the
--- same plan.
+-- same plan and run.
 pub record OwnStep (state : LocalState) (step : Step) (old new : SeenOwnSite) : Type 0 where
   pub allowed : may old.plan old.core.site state step ≡ true
   pub stands : StandsFor (after old.plan old.core.site state step) new
   pub plan : new.plan ≡ old.plan
+  pub run : new.run ≡ old.run
   pub site : new.core.site ≡ old.core.site
 
 -- the same for each state that the site represented
@@ -73,51 +75,57 @@ OwnSteps step old new = (state : LocalState) → StandsFor state old → OwnStep
 
 -- ---- what calls do with what is kept
 
--- It is the site of the plan with this number, before its first event. It has no meal, and keeps of each edge whose
--- higher end it is the fork of the start.
-pub record IsOpened (plan : SeenPlan) (number : ℕ) (own : SeenOwnSite) : Type 0 where
+-- It is the site of the plan with this number, in this run, before its first event. It has no meal, and keeps of each
+-- edge whose higher end it is the fork of the start.
+pub record IsOpened (plan : SeenPlan) (run number : ℕ) (own : SeenOwnSite) : Type 0 where
   pub site : own.core.site ≡ number
   pub plan_is : own.plan ≡ plan
+  pub run_is : own.run ≡ run
   pub fresh : IsFreshFor plan own.core
   pub meal : own.meal ≡ None
   pub shelf : own.shelf ≡ map (first_kept plan number) (edges_of plan number)
 
--- The site did the step, which puts no letter and takes no Fork. Plan, meal and the forks that it keeps stay.
+-- The site did the step, which puts no letter and takes no Fork. Plan, run, meal and the forks that it keeps stay.
 pub record SiteSteps (step : Step) (old new : SeenOwnSite) : Type 0 where
   pub core : CoreSteps step old.core new.core
   pub shelf : new.shelf ≡ old.shelf
   pub plan : new.plan ≡ old.plan
+  pub run : new.run ≡ old.run
   pub meal : new.meal ≡ old.meal
 
 -- The site, which does not eat, did the step, which puts the letter at place i. If the letter is the fork, it is kept
--- as it was. Plan and meal stay.
+-- as it was. Plan, run and meal stay.
 pub record SitePuts (i : ℕ) (step : Step) (old new : SeenOwnSite) (letter : Letter) : Type 0 where
   pub awake : is_eating old.core.phase ≡ false
   pub core : CorePuts i step old.core new.core letter
   pub shelf : new.shelf ≡ put_away i letter old.shelf
   pub plan : new.plan ≡ old.plan
+  pub run : new.run ≡ old.run
   pub meal : new.meal ≡ old.meal
 
--- The site took the letter at place i, which arrived with these bytes. If it is the fork, it goes on from the fork that
--- was kept there, which is kept no more. Plan and meal stay: a letter may be taken during a meal.
+-- The site took the letter of its run at place i, which arrived with these bytes. If it is the fork, it goes on from
+-- the fork that was kept there, which is kept no more. Plan, run and meal stay: a letter may be taken during a meal.
 pub record SiteTakes (bytes : List ℕ) (i : ℕ) (letter : Letter) (old new : SeenOwnSite) : Type 0 where
-  pub arrives : ArrivesWith old.plan (kept_at i old.shelf) (edge_at old.plan old.core.site i) bytes letter
+  pub arrives : ArrivesWith old.plan old.run (kept_at i old.shelf) (edge_at old.plan old.core.site i) bytes letter
   pub core : CoreSteps (step.Take i letter) old.core new.core
   pub shelf : new.shelf ≡ taken_off i letter old.shelf
   pub plan : new.plan ≡ old.plan
+  pub run : new.run ≡ old.run
   pub meal : new.meal ≡ old.meal
 
 -- The site took this fork at place i, which arrived with the note and goes on from the fork that was kept there. That
--- one is kept no more. Plan and meal stay.
+-- one is kept no more. Plan, run and meal stay.
 pub record SiteTakesFork (i : ℕ) (note : ForkNote) (fork : SeenFork) (old new : SeenOwnSite) : Type 0 where
   pub note_is : note ≡ fork_note fork
   pub goes_on : GoesOn old.plan (kept_at i old.shelf) fork
   pub core : CoreSteps (step.Take i (letter.Fork fork)) old.core new.core
   pub shelf : new.shelf ≡ slice_set old.shelf i None
   pub plan : new.plan ≡ old.plan
+  pub run : new.run ≡ old.run
   pub meal : new.meal ≡ old.meal
 
--- The site began a meal, which it has now, with the forks that the rules say. Plan and the forks that it keeps stay.
+-- The site began a meal, which it has now, with the forks that the rules say. Plan, run and the forks that
+-- it keeps stay.
 pub record SiteBegins (old new : SeenOwnSite) : Type 0 where
   pub core : CoreSteps step.Begin old.core new.core
   pub begun : SeenMeal
@@ -126,9 +134,10 @@ pub record SiteBegins (old new : SeenOwnSite) : Type 0 where
   pub forks : ForEachState old.core (λ plan state. begun.forks ≡ forks_in_hand plan old.core.site (after plan old.core.site state step.Begin) (all_places state))
   pub shelf : new.shelf ≡ old.shelf
   pub plan : new.plan ≡ old.plan
+  pub run : new.run ≡ old.run
 
 -- The site ended its meal, whose job failed or did not. If the forks of the meal were those of a state, this is the
--- step End. Plan and the forks that it keeps stay.
+-- step End. Plan, run and the forks that it keeps stay.
 pub record SiteEnds (failed : Bool) (old new : SeenOwnSite) : Type 0 where
   pub ended : SeenMeal
   pub was : old.meal ≡ Some ended
@@ -136,6 +145,7 @@ pub record SiteEnds (failed : Bool) (old new : SeenOwnSite) : Type 0 where
   pub meal : new.meal ≡ None
   pub shelf : new.shelf ≡ old.shelf
   pub plan : new.plan ≡ old.plan
+  pub run : new.run ≡ old.run
 
 -- the fork is here and dirty: it is in the meal, or was eaten with since it came [paper: clean and dirty]
 abbrev pub is_used : ForkSlot → Bool
@@ -162,11 +172,11 @@ step_refusal own = if is_eating own.core.phase then eating else not_now
 abbrev pub StepsOrRefuses : Step → ℤ → SeenOwnSite → SeenOwnSite → Type 0
 StepsOrRefuses step result old new = IsOkOr result (SiteSteps step old new) ((new ≡ old) × MayNot step old × (result ≡ step_refusal old))
 
--- What a call returns that refuses to put a letter at place i: that the site eats; else that `out` has fewer than 21
+-- What a call returns that refuses to put a letter at place i: that the site eats; else that `out` has fewer than 29
 -- bytes; else that there is no such place; else that the rules do not allow the step now.
 abbrev pub put_refusal : ℕ → List ℕ → SeenOwnSite → ℤ
 put_refusal i out own = if is_eating own.core.phase then eating
-    else (if nat_lt (length out) 21 then small
+    else (if nat_lt (length out) 29 then small
     else (if nat_le (length own.core.places) i then no_such
     else not_now))
 
@@ -180,7 +190,7 @@ pub record PutRefuses (i : ℕ) (step : Step) (out : List ℕ) (result : ℤ) (o
 -- their number; or it refuses, and neither the site nor `out` changes.
 abbrev pub PutsOrRefuses : ℕ → Step → List ℕ → List ℕ → ℤ → SeenOwnSite → SeenOwnSite → Type 0
 PutsOrRefuses i step out out_new result old new =
-    IsDoneOr result ((letter : Letter) × SitePuts i step old new letter × AreWritten letter (edge_at old.plan old.core.site i) out out_new result)
+    IsDoneOr result ((letter : Letter) × SitePuts i step old new letter × AreWritten old.run letter (edge_at old.plan old.core.site i) out out_new result)
     ((new ≡ old) × (out_new ≡ out) × PutRefuses i step out result old)
 
 -- a call to begin a meal begins one, and returns 0; or it refuses and nothing changes, and then the rules allow no meal
@@ -251,17 +261,19 @@ pub record IsPlaceOf (i : ℕ) (note : Note) (own : SeenOwnSite) : Type 0 where
   pub within : i < length own.core.places
   pub edge : edge_at own.plan own.core.site i ≡ note.edge
 
--- Why a call with these bytes refuses, and what is returned. The bytes are those of no note, and the fault is theirs.
--- Or they are those of a note: then no place of the site is of its edge, or what it reports is refused at the place
--- that is.
+-- Why a call with these bytes refuses, and what is returned. The bytes are those of no letter of the run, and the fault
+-- is theirs. Or they are those of one, with this note: then no place of the site is of its edge, or what it reports is
+-- refused at the place that is.
 abbrev pub TakeRefuses : List ℕ → ℤ → LocalState → SeenOwnSite → Type 0
 TakeRefuses bytes result state own =
-    ((f : WireFault) × (result ≡ wire_status f) × IsNoNote bytes f)
-    ⊎ ((note : Note) × IsInBytes note × (bytes ≡ bytes_of note)
+    ((f : WireFault) × (result ≡ wire_status f) × IsNoLetter own.run bytes f)
+    ⊎ ((note : Note) × IsInBytes note × (bytes ≡ bytes_in_run own.run note)
     × (((result ≡ other_edge) × IsEdgeOfNone note.edge own) ⊎ ((i : ℕ) × IsPlaceOf i note own × ToldRefuses i note.edge note.told result state own)))
 
 -- A call with the bytes of a letter takes the letter that arrives with them at one of the places, and returns 0. Or it
--- refuses, and a site that represents a state is as it was.
+-- refuses, and a site that represents a state is as it was. If the bytes begin with the number of another run, it
+-- refuses for that before anything else, and nothing changes.
 pub record TakesOrRefuses (bytes : List ℕ) (result : ℤ) (old new : SeenOwnSite) : Type 0 where
   pub outcome : IsOkOr result ((i : ℕ) × (letter : Letter) × SiteTakes bytes i letter old new)
       ((state : LocalState) → StandsFor state old → (new ≡ old) × TakeRefuses bytes result state old)
+  pub other_run : 8 ≤ length bytes → is_of_run old.run bytes ≡ false → (result ≡ wire_status fault.OtherRun) × (new ≡ old)

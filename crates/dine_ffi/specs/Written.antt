@@ -24,9 +24,9 @@ pub record ArePeriods (fork : SeenFork) (old new : List ℕ) (result : ℤ) : Ty
   pub number : result ≡ pos (length (fork_periods fork))
   pub numbers : new ≡ over_front (period_numbers (fork_periods fork)) old
 
--- The number of the letter's bytes is returned. They are at the front of `out`, which has at least 21, and the rest of
+-- The number of the letter's bytes is returned. They are at the front of `out`, which has at least 29, and the rest of
 -- `out` is as before.
-pub record AreWritten (letter : Letter) (edge : ℕ) (old new : List ℕ) (result : ℤ) : Type 0 where
-  pub enough : 21 ≤ length old
-  pub number : result ≡ pos (length (letter_bytes edge letter))
-  pub bytes : new ≡ letter_bytes edge letter ++ drop (length (letter_bytes edge letter)) old
+pub record AreWritten (run : ℕ) (letter : Letter) (edge : ℕ) (old new : List ℕ) (result : ℤ) : Type 0 where
+  pub enough : 29 ≤ length old
+  pub number : result ≡ pos (length (letter_bytes run edge letter))
+  pub bytes : new ≡ letter_bytes run edge letter ++ drop (length (letter_bytes run edge letter)) old

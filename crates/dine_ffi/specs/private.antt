@@ -1,2 +1,3 @@
+pub mod OwnBuilderFields
 pub mod OwnPlanFields
 pub mod OwnSiteFields

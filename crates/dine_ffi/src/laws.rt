@@ -15,7 +15,7 @@ ghost use Rattle.dine_ffi.specs.declared.acts.PutKind.{PutKind};
 /// start. If a site represents a state, and a call does what its contract says, the state allowed the step, and the
 /// site represents the state after it: with its letters, its meal, and the forks that it keeps.
 pub fn calls_are_steps()
-    ensures opened { (plan : SeenPlan) (number : ℕ) (own : SeenOwnSite) → IsOpened plan number own
+    ensures opened { (plan : SeenPlan) (run number : ℕ) (own : SeenOwnSite) → IsOpened plan run number own
         → StandsFor (start_of plan number) own }
     ensures hungry { (old new : SeenOwnSite) → SiteSteps step.Hungry old new → OwnSteps step.Hungry old new }
     ensures quit { (old new : SeenOwnSite) → SiteSteps step.Quit old new → OwnSteps step.Quit old new }
@@ -32,8 +32,8 @@ pub fn calls_are_steps()
 /// opened to another, each as its contract says. Then the site represents a state to which the rules lead from the
 /// start, by the steps of the calls that did not refuse, in order.
 pub fn lists_of_calls_are_steps()
-    ensures { (plan : SeenPlan) (number : ℕ) (opened own : SeenOwnSite) (calls : List (Call × ℤ))
-        → IsOpened plan number opened → CallsLead calls opened own
-        → (steps : List Step) × (state : LocalState) × AreStepsOf plan number calls steps
+    ensures { (plan : SeenPlan) (run number : ℕ) (opened own : SeenOwnSite) (calls : List (Call × ℤ))
+        → IsOpened plan run number opened → CallsLead calls opened own
+        → (steps : List Step) × (state : LocalState) × AreStepsOf plan run number calls steps
         × StepsLead plan number steps (start_of plan number) state × StandsFor state own }
 {}

@@ -1,11 +1,13 @@
-//! The proved rules for programs that are not Rattle: a plan, a world, or one site, behind a handle that C holds.
+//! The proved rules for programs that are not Rattle: a plan, a world, a site or a builder, behind a handle of C.
 #![tactic(auto)]
 
 mod acts;
+pub mod builder_calls;
 mod copying;
 pub mod event;
 pub mod handle;
 pub mod laws;
+mod own_builder;
 mod own_plan;
 mod own_site;
 mod own_world;

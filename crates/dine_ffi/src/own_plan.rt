@@ -56,6 +56,16 @@ impl OwnPlan {
         }
     }
 
+    /// Keeps a plan.
+    pub(crate) fn of(alloc: Global, plan: Plan) -> Result<OwnPlan, AllocError>
+        ensures { IfOk result (λ own. own ≡ plan) }
+    {
+        match Arc::new(alloc, plan) {
+            Ok(plan) => Ok(OwnPlan { plan }),
+            Err(_) => Err(AllocError),
+        }
+    }
+
     /// Returns the plan.
     pub(crate) fn plan(&self) -> &Plan
         ensures { result.now ≡ self.now }

@@ -31,7 +31,7 @@ use dine_rules::{Breach, EventKind, Letter};
 use dine_site_core::SiteCore;
 use dine_site_core::site::{ForkSlot, fresh_forks, fresh_tokens};
 use dine_token::{Fork, Meal, Token};
-use dine_wire::{ForkNote, NOTE_MAX, Told, note_of, put_note, read_note};
+use dine_wire::{ForkNote, LETTER_MAX, Told, note_of, put_letter, read_letter};
 use std::alloc::{AllocError, Global};
 use std::marker::Model;
 use std::mem;
@@ -66,9 +66,10 @@ pub struct DinePlace {
     pub is_dirty: u32,
 }
 
-/// A site, its plan, its meal if it eats, and the forks that it gave away, as they were then.
+/// A site, its plan, the number of its run, its meal if it eats, and the forks that it gave away, as they were then.
 pub struct OwnSite {
     plan: OwnPlan,
+    run: u64,
     core: SiteCore,
     meal: Option<Meal>,
     shelf: Vec<Option<Fork>>,
@@ -90,6 +91,7 @@ impl Drop for OwnSite {
     fn drop(self) {
         let OwnSite {
             plan: _,
+            run: _,
             core,
             meal,
             shelf: _,
@@ -126,10 +128,15 @@ fn at_rest(core: SiteCore, meal: Option<Meal>) -> SiteCore
 }
 
 impl OwnSite {
-    /// Opens the site of the plan, before its first event.
-    pub(crate) fn open(alloc: Global, plan: OwnPlan, site: u32) -> Result<OwnSite, AllocError>
+    /// Opens the site of the plan in the run, before its first event.
+    pub(crate) fn open(
+        alloc: Global,
+        plan: OwnPlan,
+        run: u64,
+        site: u32,
+    ) -> Result<OwnSite, AllocError>
         requires { site < site_count plan }
-        ensures { IfOk result (IsOpened plan site) }
+        ensures { IfOk result (IsOpened plan run site) }
     {
         let shelf = first_shelf(alloc, plan.plan(), site)?;
         let forks = fresh_forks(alloc, plan.plan(), site)?;
@@ -137,6 +144,7 @@ impl OwnSite {
         let core = SiteCore::open(alloc, plan.plan(), site, forks, tokens)?;
         Ok(OwnSite {
             plan,
+            run,
             core,
             meal: None,
             shelf,
@@ -194,7 +202,7 @@ impl OwnSite {
         if self.meal.is_some() {
             return EATING;
         }
-        if out.len() < NOTE_MAX {
+        if out.len() < LETTER_MAX {
             return SMALL;
         }
         let Some(edge) = self.edge(i) else {
@@ -203,9 +211,10 @@ impl OwnSite {
         if self.shelf.len() <= i as usize {
             return NO_SUCH;
         }
+        let run = self.run();
         match put(&mut self.core, what, i) {
             Some(letter) => {
-                let len = put_note(note_of(&letter, edge), out);
+                let len = put_letter(run, note_of(&letter, edge), out);
                 put_away(&mut self.shelf, i, letter);
                 len as i64
             }
@@ -265,11 +274,11 @@ impl OwnSite {
         }
     }
 
-    /// Takes the letter whose bytes these are.
+    /// Takes the letter whose bytes these are. If it is of another run, it is refused before anything else.
     pub(crate) fn take(&mut self, alloc: Global, bytes: &[u8]) -> i64
         ensures { TakesOrRefuses bytes.now result self.old self.new }
     {
-        let note = match read_note(bytes) {
+        let note = match read_letter(self.run(), bytes) {
             Ok(note) => note,
             Err(fault) => return wire_status(fault),
         };
@@ -282,6 +291,13 @@ impl OwnSite {
             Told::Done => self.take_word(i, Letter::Done),
             Told::Close => self.take_word(i, Letter::Close),
         }
+    }
+
+    // The number of the run.
+    fn run(&self) -> u64
+        ensures { result ≡ self.now.run }
+    {
+        self.run
     }
 
     // Takes a letter other than a Fork.

@@ -82,7 +82,7 @@ pub extern "C" fn dine_raw_plan_version(alloc: Global, handle: &mut Handle) -> i
     };
     let answer = match &thing.kept {
         Kept::Plan(plan) => i64::from(plan.plan().version()),
-        Kept::World(_) | Kept::Site(_) => OTHER_KIND,
+        Kept::World(_) | Kept::Site(_) | Kept::Builder(_) => OTHER_KIND,
     };
     handle.put(thing);
     answer
@@ -100,7 +100,7 @@ pub extern "C" fn dine_raw_plan_sites(alloc: Global, handle: &mut Handle) -> i64
     };
     let answer = match &thing.kept {
         Kept::Plan(plan) => i64::from(plan.plan().sites()),
-        Kept::World(_) | Kept::Site(_) => OTHER_KIND,
+        Kept::World(_) | Kept::Site(_) | Kept::Builder(_) => OTHER_KIND,
     };
     handle.put(thing);
     answer
@@ -118,7 +118,7 @@ pub extern "C" fn dine_raw_plan_edges(alloc: Global, handle: &mut Handle) -> i64
     };
     let answer = match &thing.kept {
         Kept::Plan(plan) => i64::from(plan.plan().edges()),
-        Kept::World(_) | Kept::Site(_) => OTHER_KIND,
+        Kept::World(_) | Kept::Site(_) | Kept::Builder(_) => OTHER_KIND,
     };
     handle.put(thing);
     answer
@@ -136,7 +136,7 @@ pub extern "C" fn dine_raw_plan_jobs(alloc: Global, handle: &mut Handle, site: u
     };
     let answer = match &thing.kept {
         Kept::Plan(plan) => plan.jobs(site),
-        Kept::World(_) | Kept::Site(_) => OTHER_KIND,
+        Kept::World(_) | Kept::Site(_) | Kept::Builder(_) => OTHER_KIND,
     };
     handle.put(thing);
     answer
@@ -161,7 +161,7 @@ pub extern "C" fn dine_raw_plan_name(
     };
     let answer = match &thing.kept {
         Kept::Plan(plan) => plan.name(site, out),
-        Kept::World(_) | Kept::Site(_) => OTHER_KIND,
+        Kept::World(_) | Kept::Site(_) | Kept::Builder(_) => OTHER_KIND,
     };
     handle.put(thing);
     answer
@@ -186,7 +186,7 @@ pub extern "C" fn dine_raw_plan_ends(
     };
     let answer = match &thing.kept {
         Kept::Plan(plan) => plan.ends(edge, out),
-        Kept::World(_) | Kept::Site(_) => OTHER_KIND,
+        Kept::World(_) | Kept::Site(_) | Kept::Builder(_) => OTHER_KIND,
     };
     handle.put(thing);
     answer

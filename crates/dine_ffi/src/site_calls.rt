@@ -23,7 +23,8 @@ use crate::status::{CLOSED, MEMORY, NO_SUCH, OPEN_ALREADY, OTHER_KIND};
 use crate::thing::{Kept, Thing};
 use std::alloc::Global;
 
-/// Opens the site of the plan that the handle `plan` holds. The handle `site`, which is closed, holds it then.
+/// Opens the site of the plan that the handle `plan` holds, in the run 0. The handle `site`, which is closed, holds it
+/// then.
 #[unsafe(no_mangle)]
 pub extern "C" fn dine_raw_site_open(
     alloc: Global,
@@ -33,7 +34,28 @@ pub extern "C" fn dine_raw_site_open(
 ) -> i64
     ensures plan { plan.new.slot.held ≡ plan.old.slot.held }
     ensures site { IsOkOr result
-        (HoldsPlan (λ p. HoldsSite (IsOpened p number) site.new.slot.held) plan.old.slot.held)
+        (HoldsPlan (λ p. HoldsSite (IsOpened p 0 number) site.new.slot.held) plan.old.slot.held)
+        (site.new.slot.held ≡ site.old.slot.held) }
+    ensures open { site.old.slot.held ≢ None → result ≡ open_already }
+    ensures refused { site.old.slot.held ≡ None → IsDoneOr result Unit (OfHeld plan.old.slot.held result
+        (λ kept. OfPlan kept result (λ p. IsWithin number (site_count p) result (result ≡ memory)))) }
+{
+    dine_raw_site_open_in(alloc, plan, number, 0, site)
+}
+
+/// Opens the site of the plan that the handle `plan` holds, in the run with this number. The handle `site`, which is
+/// closed, holds it then.
+#[unsafe(no_mangle)]
+pub extern "C" fn dine_raw_site_open_in(
+    alloc: Global,
+    plan: &mut Handle,
+    number: u32,
+    run: u64,
+    site: &mut Handle,
+) -> i64
+    ensures plan { plan.new.slot.held ≡ plan.old.slot.held }
+    ensures site { IsOkOr result
+        (HoldsPlan (λ p. HoldsSite (IsOpened p run number) site.new.slot.held) plan.old.slot.held)
         (site.new.slot.held ≡ site.old.slot.held) }
     ensures open { site.old.slot.held ≢ None → result ≡ open_already }
     ensures refused { site.old.slot.held ≡ None → IsDoneOr result Unit (OfHeld plan.old.slot.held result
@@ -45,29 +67,29 @@ pub extern "C" fn dine_raw_site_open(
     let Some(thing) = plan.take(alloc) else {
         return CLOSED;
     };
-    let answer = open_site(alloc, &thing, number, site);
+    let answer = open_site(alloc, &thing, number, run, site);
     plan.put(thing);
     answer
 }
 
-fn open_site(alloc: Global, thing: &Thing, number: u32, handle: &mut Handle) -> i64
+fn open_site(alloc: Global, thing: &Thing, number: u32, run: u64, handle: &mut Handle) -> i64
     requires { handle.old.slot.held ≡ None }
     ensures site { IsOkOr result
-        (OnPlan (λ p. HoldsSite (IsOpened p number) handle.new.slot.held) thing.now.kept)
+        (OnPlan (λ p. HoldsSite (IsOpened p run number) handle.new.slot.held) thing.now.kept)
         (handle.new.slot.held ≡ handle.old.slot.held) }
     ensures refused { IsDoneOr result Unit (OfPlan thing.now.kept result
         (λ p. IsWithin number (site_count p) result (result ≡ memory))) }
 {
     match &thing.kept {
-        Kept::Plan(plan) => open_site_of(alloc, plan, number, handle),
-        Kept::World(_) | Kept::Site(_) => OTHER_KIND,
+        Kept::Plan(plan) => open_site_of(alloc, plan, number, run, handle),
+        Kept::World(_) | Kept::Site(_) | Kept::Builder(_) => OTHER_KIND,
     }
 }
 
-fn open_site_of(alloc: Global, plan: &OwnPlan, number: u32, handle: &mut Handle) -> i64
+fn open_site_of(alloc: Global, plan: &OwnPlan, number: u32, run: u64, handle: &mut Handle) -> i64
     requires { handle.old.slot.held ≡ None }
     ensures site { IsOkOr result
-        (HoldsSite (IsOpened plan.now number) handle.new.slot.held)
+        (HoldsSite (IsOpened plan.now run number) handle.new.slot.held)
         (handle.new.slot.held ≡ handle.old.slot.held) }
     ensures refused { IsDoneOr result Unit (IsWithin number (site_count plan.now) result (result ≡ memory)) }
 {
@@ -77,7 +99,7 @@ fn open_site_of(alloc: Global, plan: &OwnPlan, number: u32, handle: &mut Handle)
     let Ok(plan) = plan.share() else {
         return MEMORY;
     };
-    match OwnSite::open(alloc, plan, number) {
+    match OwnSite::open(alloc, plan, run, number) {
         Ok(site) => open(alloc, Kept::Site(site), handle),
         Err(_) => MEMORY,
     }
@@ -105,7 +127,7 @@ pub extern "C" fn dine_raw_site_state(
     };
     let answer = match &thing.kept {
         Kept::Site(site) => site.state(out),
-        Kept::Plan(_) | Kept::World(_) => OTHER_KIND,
+        Kept::Plan(_) | Kept::World(_) | Kept::Builder(_) => OTHER_KIND,
     };
     handle.put(thing);
     answer
@@ -138,7 +160,7 @@ pub extern "C" fn dine_raw_site_place(
     };
     let answer = match &thing.kept {
         Kept::Site(site) => site.place_state(i, out),
-        Kept::Plan(_) | Kept::World(_) => OTHER_KIND,
+        Kept::Plan(_) | Kept::World(_) | Kept::Builder(_) => OTHER_KIND,
     };
     handle.put(thing);
     answer
@@ -158,7 +180,7 @@ pub extern "C" fn dine_raw_site_next(alloc: Global, handle: &mut Handle, out: &m
     };
     let answer = match &thing.kept {
         Kept::Site(site) => site.next(out),
-        Kept::Plan(_) | Kept::World(_) => OTHER_KIND,
+        Kept::Plan(_) | Kept::World(_) | Kept::Builder(_) => OTHER_KIND,
     };
     handle.put(thing);
     answer
@@ -174,7 +196,7 @@ pub extern "C" fn dine_raw_site_hungry(alloc: Global, handle: &mut Handle) -> i6
     };
     let answer = match &mut thing.kept {
         Kept::Site(site) => site.hungry(),
-        Kept::Plan(_) | Kept::World(_) => OTHER_KIND,
+        Kept::Plan(_) | Kept::World(_) | Kept::Builder(_) => OTHER_KIND,
     };
     handle.put(thing);
     answer
@@ -190,7 +212,7 @@ pub extern "C" fn dine_raw_site_quit(alloc: Global, handle: &mut Handle) -> i64
     };
     let answer = match &mut thing.kept {
         Kept::Site(site) => site.quit(),
-        Kept::Plan(_) | Kept::World(_) => OTHER_KIND,
+        Kept::Plan(_) | Kept::World(_) | Kept::Builder(_) => OTHER_KIND,
     };
     handle.put(thing);
     answer
@@ -213,7 +235,7 @@ pub extern "C" fn dine_raw_site_give(
     };
     let answer = match &mut thing.kept {
         Kept::Site(site) => site.put(PutKind::Give, i, out),
-        Kept::Plan(_) | Kept::World(_) => OTHER_KIND,
+        Kept::Plan(_) | Kept::World(_) | Kept::Builder(_) => OTHER_KIND,
     };
     handle.put(thing);
     answer
@@ -236,7 +258,7 @@ pub extern "C" fn dine_raw_site_ask(
     };
     let answer = match &mut thing.kept {
         Kept::Site(site) => site.put(PutKind::Ask, i, out),
-        Kept::Plan(_) | Kept::World(_) => OTHER_KIND,
+        Kept::Plan(_) | Kept::World(_) | Kept::Builder(_) => OTHER_KIND,
     };
     handle.put(thing);
     answer
@@ -259,7 +281,7 @@ pub extern "C" fn dine_raw_site_done(
     };
     let answer = match &mut thing.kept {
         Kept::Site(site) => site.put(PutKind::Done, i, out),
-        Kept::Plan(_) | Kept::World(_) => OTHER_KIND,
+        Kept::Plan(_) | Kept::World(_) | Kept::Builder(_) => OTHER_KIND,
     };
     handle.put(thing);
     answer
@@ -282,7 +304,7 @@ pub extern "C" fn dine_raw_site_shut(
     };
     let answer = match &mut thing.kept {
         Kept::Site(site) => site.put(PutKind::Close, i, out),
-        Kept::Plan(_) | Kept::World(_) => OTHER_KIND,
+        Kept::Plan(_) | Kept::World(_) | Kept::Builder(_) => OTHER_KIND,
     };
     handle.put(thing);
     answer
@@ -306,7 +328,7 @@ pub extern "C" fn dine_raw_site_break(
     };
     let answer = match &mut thing.kept {
         Kept::Site(site) => site.put(PutKind::Break, i, out),
-        Kept::Plan(_) | Kept::World(_) => OTHER_KIND,
+        Kept::Plan(_) | Kept::World(_) | Kept::Builder(_) => OTHER_KIND,
     };
     handle.put(thing);
     answer
@@ -330,13 +352,13 @@ pub extern "C" fn dine_raw_site_act(
     };
     let answer = match &mut thing.kept {
         Kept::Site(site) => site.act(*event, out),
-        Kept::Plan(_) | Kept::World(_) => OTHER_KIND,
+        Kept::Plan(_) | Kept::World(_) | Kept::Builder(_) => OTHER_KIND,
     };
     handle.put(thing);
     answer
 }
 
-/// Takes the letter whose bytes these are.
+/// Takes the letter whose bytes these are. If it is of another run, it is refused before anything else.
 #[unsafe(no_mangle)]
 pub extern "C" fn dine_raw_site_take(alloc: Global, handle: &mut Handle, letter: &[u8]) -> i64
     ensures becomes { SiteCall (TakesOrRefuses letter.now) result handle.old.slot.held handle.new.slot.held }
@@ -346,7 +368,7 @@ pub extern "C" fn dine_raw_site_take(alloc: Global, handle: &mut Handle, letter:
     };
     let answer = match &mut thing.kept {
         Kept::Site(site) => site.take(alloc, letter),
-        Kept::Plan(_) | Kept::World(_) => OTHER_KIND,
+        Kept::Plan(_) | Kept::World(_) | Kept::Builder(_) => OTHER_KIND,
     };
     handle.put(thing);
     answer
@@ -362,7 +384,7 @@ pub extern "C" fn dine_raw_site_begin(alloc: Global, handle: &mut Handle) -> i64
     };
     let answer = match &mut thing.kept {
         Kept::Site(site) => site.begin(),
-        Kept::Plan(_) | Kept::World(_) => OTHER_KIND,
+        Kept::Plan(_) | Kept::World(_) | Kept::Builder(_) => OTHER_KIND,
     };
     handle.put(thing);
     answer
@@ -378,7 +400,7 @@ pub extern "C" fn dine_raw_site_end(alloc: Global, handle: &mut Handle, failed: 
     };
     let answer = match &mut thing.kept {
         Kept::Site(site) => site.end(failed),
-        Kept::Plan(_) | Kept::World(_) => OTHER_KIND,
+        Kept::Plan(_) | Kept::World(_) | Kept::Builder(_) => OTHER_KIND,
     };
     handle.put(thing);
     answer
@@ -404,7 +426,7 @@ pub extern "C" fn dine_raw_site_fork(
     };
     let answer = match &thing.kept {
         Kept::Site(site) => site.periods(i, out),
-        Kept::Plan(_) | Kept::World(_) => OTHER_KIND,
+        Kept::Plan(_) | Kept::World(_) | Kept::Builder(_) => OTHER_KIND,
     };
     handle.put(thing);
     answer
@@ -423,7 +445,7 @@ pub extern "C" fn dine_raw_site_value(alloc: Global, handle: &mut Handle, i: u32
     };
     let answer = match &thing.kept {
         Kept::Site(site) => site.value(i),
-        Kept::Plan(_) | Kept::World(_) => OTHER_KIND,
+        Kept::Plan(_) | Kept::World(_) | Kept::Builder(_) => OTHER_KIND,
     };
     handle.put(thing);
     answer

@@ -36,7 +36,7 @@ pub(crate) const OPEN_ALREADY: i64 = -8;
 /// No link of the site is of this edge.
 pub(crate) const OTHER_EDGE: i64 = -14;
 
-/// -11 to -13: the bytes are no letter that may arrive.
+/// -11 to -13, or -15: the bytes are no letter that may arrive. -15 is that of a letter of another run.
 pub(crate) fn wire_status(fault: WireFault) -> i64
     ensures refused { IsRefused result }
     ensures nonzero { result ≡ pos 0 → ⊥ }
@@ -47,6 +47,7 @@ pub(crate) fn wire_status(fault: WireFault) -> i64
         WireFault::Kind => -12,
         WireFault::Unlawful => -13,
         WireFault::Memory => MEMORY,
+        WireFault::OtherRun => -15,
     }
 }
 

@@ -52,7 +52,7 @@ fn open_world(alloc: Global, thing: &Thing, handle: &mut Handle) -> i64
             Ok(world) => open(alloc, Kept::World(world), handle),
             Err(_) => MEMORY,
         },
-        Kept::World(_) | Kept::Site(_) => OTHER_KIND,
+        Kept::World(_) | Kept::Site(_) | Kept::Builder(_) => OTHER_KIND,
     }
 }
 
@@ -68,7 +68,7 @@ pub extern "C" fn dine_raw_world_bound(alloc: Global, handle: &mut Handle) -> i6
     };
     let answer = match &thing.kept {
         Kept::World(world) => world.bound(),
-        Kept::Plan(_) | Kept::Site(_) => OTHER_KIND,
+        Kept::Plan(_) | Kept::Site(_) | Kept::Builder(_) => OTHER_KIND,
     };
     handle.put(thing);
     answer
@@ -86,7 +86,7 @@ pub extern "C" fn dine_raw_world_count(alloc: Global, handle: &mut Handle) -> i6
     };
     let answer = match &thing.kept {
         Kept::World(world) => world.count(),
-        Kept::Plan(_) | Kept::Site(_) => OTHER_KIND,
+        Kept::Plan(_) | Kept::Site(_) | Kept::Builder(_) => OTHER_KIND,
     };
     handle.put(thing);
     answer
@@ -112,7 +112,7 @@ pub extern "C" fn dine_raw_world_enabled(
     };
     let answer = match &thing.kept {
         Kept::World(world) => world.enabled(n, out),
-        Kept::Plan(_) | Kept::Site(_) => OTHER_KIND,
+        Kept::Plan(_) | Kept::Site(_) | Kept::Builder(_) => OTHER_KIND,
     };
     handle.put(thing);
     answer
@@ -131,7 +131,7 @@ pub extern "C" fn dine_raw_world_step(alloc: Global, handle: &mut Handle, event:
     };
     let answer = match &mut thing.kept {
         Kept::World(world) => world.step(*event),
-        Kept::Plan(_) | Kept::Site(_) => OTHER_KIND,
+        Kept::Plan(_) | Kept::Site(_) | Kept::Builder(_) => OTHER_KIND,
     };
     handle.put(thing);
     answer
@@ -149,7 +149,7 @@ pub extern "C" fn dine_raw_world_replay(alloc: Global, handle: &mut Handle, choi
     };
     let answer = match &mut thing.kept {
         Kept::World(world) => world.replay(choices),
-        Kept::Plan(_) | Kept::Site(_) => OTHER_KIND,
+        Kept::Plan(_) | Kept::Site(_) | Kept::Builder(_) => OTHER_KIND,
     };
     handle.put(thing);
     answer
@@ -168,7 +168,7 @@ pub extern "C" fn dine_raw_world_finish(alloc: Global, handle: &mut Handle) -> i
     };
     let answer = match &mut thing.kept {
         Kept::World(world) => world.finish(),
-        Kept::Plan(_) | Kept::Site(_) => OTHER_KIND,
+        Kept::Plan(_) | Kept::Site(_) | Kept::Builder(_) => OTHER_KIND,
     };
     handle.put(thing);
     answer
@@ -187,7 +187,7 @@ pub extern "C" fn dine_raw_world_phase(alloc: Global, handle: &mut Handle, site:
     };
     let answer = match &thing.kept {
         Kept::World(world) => world.phase(site),
-        Kept::Plan(_) | Kept::Site(_) => OTHER_KIND,
+        Kept::Plan(_) | Kept::Site(_) | Kept::Builder(_) => OTHER_KIND,
     };
     handle.put(thing);
     answer
@@ -206,7 +206,7 @@ pub extern "C" fn dine_raw_world_ate(alloc: Global, handle: &mut Handle, site: u
     };
     let answer = match &thing.kept {
         Kept::World(world) => world.ate(site),
-        Kept::Plan(_) | Kept::Site(_) => OTHER_KIND,
+        Kept::Plan(_) | Kept::Site(_) | Kept::Builder(_) => OTHER_KIND,
     };
     handle.put(thing);
     answer
@@ -231,7 +231,7 @@ pub extern "C" fn dine_raw_world_fork(
     };
     let answer = match &thing.kept {
         Kept::World(world) => world.periods(edge, out),
-        Kept::Plan(_) | Kept::Site(_) => OTHER_KIND,
+        Kept::Plan(_) | Kept::Site(_) | Kept::Builder(_) => OTHER_KIND,
     };
     handle.put(thing);
     answer
@@ -250,7 +250,7 @@ pub extern "C" fn dine_raw_world_value(alloc: Global, handle: &mut Handle, edge:
     };
     let answer = match &thing.kept {
         Kept::World(world) => world.value(edge),
-        Kept::Plan(_) | Kept::Site(_) => OTHER_KIND,
+        Kept::Plan(_) | Kept::Site(_) | Kept::Builder(_) => OTHER_KIND,
     };
     handle.put(thing);
     answer

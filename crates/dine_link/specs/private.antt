@@ -3,3 +3,4 @@ pub mod BellFields
 pub mod BellRule
 pub mod Rule
 pub mod Refusals
+pub mod Parkers

@@ -14,6 +14,7 @@ ghost use Rattle.dine_link.specs.declared.deed.Deed.TheVariants.{FoundNone, Hear
 ghost use Rattle.dine_link.specs.Deeds.{HasRungFor, HasWaited};
 
 use crate::bell_rule::{Hears, NextRinger, OfRingers, Part, Sounds};
+use crate::counted_parker::CountedParker;
 use crate::deed::Deed;
 use crate::empty_checks::EmptyChecks;
 use crate::faults::{LinkFault, Lost};
@@ -61,6 +62,7 @@ pub struct Bell {
     receiver: RuledReceiver<u32, Part, OfRingers>,
     pass: Pass<u32, Part>,
     sleeper: Arc<Sleeper, Global>,
+    parker: CountedParker,
     refused: bool,
     empty_checks: EmptyChecks,
 }
@@ -101,7 +103,10 @@ impl Bell {
         let Ok(sleeper) = Arc::new(alloc, Sleeper::new()) else {
             return Err(LinkFault::Memory);
         };
-        let Ok(ringers) = make_ringers(alloc, degree, &sender, &sleeper, &mut pass) else {
+        let Ok(parker) = CountedParker::open(alloc) else {
+            return Err(LinkFault::Memory);
+        };
+        let Ok(ringers) = make_ringers(alloc, degree, &sender, &sleeper, &parker, &mut pass) else {
             return Err(LinkFault::Memory);
         };
         let bell = Bell {
@@ -109,6 +114,7 @@ impl Bell {
             receiver,
             pass,
             sleeper,
+            parker,
             refused: false,
             empty_checks: EmptyChecks::none(),
         };
@@ -163,7 +169,7 @@ impl Bell {
             *log = log.after(&Deed::Heard(number));
             return Ok(number);
         }
-        self.sleeper.sleep(rt);
+        self.sleeper.sleep(rt, &mut self.parker);
         let Ok(number) = self.receiver.recv_as::<Hears, R>(rt, &mut self.pass) else {
             self.refused = true;
             return Err(Lost);
@@ -194,9 +200,11 @@ impl Bell {
             (log.new.deeds ≡ log.old.deeds ++ FoundNone ∷ [])
             (λ number. log.new.deeds ≡ log.old.deeds ++ Heard number ∷ []) }
     {
-        match self.next_ring(rt) {
+        let found = self
+            .empty_checks
+            .next_or_add::<Part, OfRingers, Hears, R>(rt, &self.receiver, &mut self.pass, clock);
+        match found {
             None => {
-                self.empty_checks = self.empty_checks.after(clock);
                 *log = log.after(&Deed::FoundNone);
                 None
             }
@@ -272,10 +280,9 @@ fn next_ring_or_sleep<R: Wait>(
         (log.new.deeds ≡ log.old.deeds ++ Slept wants ∷ [])
         (λ _. log.new.deeds ≡ log.old.deeds) }
 {
-    let heard = receiver.try_recv_as::<Hears, R>(rt, pass).ok();
+    let heard = state.next_or_sleep::<Part, OfRingers, Hears, R>(rt, receiver, pass, wants, room);
     if heard.is_none() {
         *log = log.after_sleep(&wants);
-        state.fall_asleep(wants, room);
     }
     heard
 }
@@ -293,6 +300,7 @@ fn make_ringers(
     degree: u32,
     sender: &RuledSender<u32, Part, OfRingers>,
     sleeper: &Arc<Sleeper, Global>,
+    parker: &CountedParker,
     pass: &mut Pass<u32, Part>,
 ) -> Result<Vec<Ringer>, AllocError>
     requires seated { IsSeatAt (sends_on sender.now) pass.old }
@@ -305,7 +313,7 @@ fn make_ringers(
     let mut ringers = Vec::with_capacity(alloc, degree as usize)?;
     for number in 0..degree {
         let sender_too = sender.try_clone()?;
-        let waker = Waker::of(sleeper)?;
+        let waker = Waker::of(sleeper, parker)?;
         let own = sender.another::<NextRinger>(pass);
         ringers.push_reserved(Ringer {
             number,

@@ -7,6 +7,7 @@ mod bell;
 mod bell_rule;
 mod channel;
 mod closing;
+mod counted_parker;
 mod deed;
 mod doorbell;
 mod empty_checks;

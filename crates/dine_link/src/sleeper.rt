@@ -1,17 +1,24 @@
 // What a bell shares with its ringers: whether it sleeps, what wakes it, and how it is woken.
-ghost use Rattle.std.specs.Prelude.{◌≡◌, ◌-◌, nat_le, ◌&&◌, ◌||◌, ◌++◌, ◌∷◌, [], not, true, false};
+ghost use Rattle.std.specs.Prelude.{◌≡◌, ◌-◌, nat_le, ◌&&◌, ◌||◌, ◌++◌, ◌∷◌, [], not, true};
+ghost use Rattle.std.specs.Prelude.{IfOk, MatchOption, false, if◌then◌else◌};
+ghost use Rattle.crossbeam_channel.specs.Claims.{view, IsSeatAt};
+ghost use Rattle.crossbeam_channel.specs.Ends.{receives_on};
+ghost use Rattle.crossbeam_channel.specs.Fifo.{Held, Learns, Pops};
 ghost use Rattle.dine_link.specs.Deeds.{waking};
+ghost use Rattle.dine_link.specs.private.Parkers.{once_more};
 ghost use Rattle.dine_link.specs.Waking.{seen_wants, wakes, still_wants};
 ghost use Rattle.dine_link.specs.declared.deed.Deed.TheVariants.{Woke};
 
+use crate::counted_parker::{CountedParker, CountedUnparker};
 use crate::deed::Deed;
 use crate::thread_log::ThreadLog;
 use crate::wants::Wants;
+use crossbeam_channel::protocol::{Lesson, Outcome, Protocol};
+use crossbeam_channel::{Pass, RuledReceiver};
 use dine_rules::Kind4;
 use std::alloc::{AllocError, Global};
 use std::sync::atomic::{AtomicU64, Ordering};
 use std::sync::{Arc, Mutex, Wait};
-use std::thread::Parker;
 
 // Whether the bell sleeps, what it wants while it sleeps, and for how many more rings it has capacity.
 #[derive(Drop)]
@@ -25,13 +32,13 @@ pub struct SleepState {
 #[derive(Drop)]
 pub struct Sleeper {
     pub state: Mutex<SleepState>,
-    parker: Parker,
     ringers: AtomicU64,
 }
 
 // What a ringer has of it. When the last one is dropped, the bell is woken.
 pub struct Waker {
     pub sleeper: Arc<Sleeper, Global>,
+    unparker: CountedUnparker,
 }
 
 impl SleepState {
@@ -43,8 +50,39 @@ impl SleepState {
         }
     }
 
+    // Returns the next message of the bell's channel, if one is left. Only if none is left, notes that the bell falls
+    // asleep, with capacity for `room` rings. What a channel's rule tells of an empty channel is known then: so the
+    // channel was asked, whatever its rule is.
+    pub fn next_or_sleep<V, P: Protocol<u32, V>, M: Outcome<u32, V> + Lesson<u32, V>, R: Wait>(
+        &mut self,
+        rt: &R,
+        receiver: &RuledReceiver<u32, V, P>,
+        pass: &mut Pass<u32, V>,
+        wants: Wants,
+        room: usize,
+    ) -> Option<u32>
+        requires seated { IsSeatAt (receives_on receiver.now) pass.old }
+        requires pops { Pops P.holds pass.old.id (view pass.old) (M.then (view pass.old)) }
+        requires learns { Learns P.holds pass.old.id (view pass.old) (M.fact (view pass.old)) }
+        ensures seated { IsSeatAt (receives_on receiver.now) pass.new }
+        ensures asked { MatchOption result
+            ((view pass.new ≡ view pass.old) × Held 0 (M.fact (view pass.old)))
+            (λ number. M.then (view pass.old) number (view pass.new)) }
+        ensures noted { MatchOption result
+            (self.new ≡ record { asleep = true; wants = wants; room = room })
+            (λ _. self.new ≡ self.old) }
+    {
+        match receiver.try_recv_as::<M, R>(rt, pass) {
+            Ok(number) => Some(number),
+            Err(_) => {
+                self.fall_asleep(wants, room);
+                None
+            }
+        }
+    }
+
     // Notes that the bell falls asleep, with capacity for `room` rings.
-    pub fn fall_asleep(&mut self, wants: Wants, room: usize)
+    fn fall_asleep(&mut self, wants: Wants, room: usize)
         ensures asleep { self.new.asleep ≡ true }
         ensures wants { self.new.wants ≡ wants }
         ensures room { self.new.room ≡ room }
@@ -99,30 +137,34 @@ impl Sleeper {
     pub fn new() -> Sleeper {
         Sleeper {
             state: Mutex::new(SleepState::new()),
-            parker: Parker::new(),
             ringers: AtomicU64::new(0),
         }
     }
 
     // Waits until a ringer has woken the bell, or no ringer is left.
-    pub fn sleep<R: Wait>(&self, rt: &R) {
+    pub fn sleep<R: Wait>(&self, rt: &R, parker: &mut CountedParker) {
         if self.ringers.load(Ordering::SeqCst) > 0 {
-            self.parker.park(rt);
+            parker.park(rt);
         }
     }
 }
 
 impl Waker {
     // Returns the waker of one further ringer.
-    pub fn of(sleeper: &Arc<Sleeper, Global>) -> Result<Waker, AllocError> {
+    pub fn of(sleeper: &Arc<Sleeper, Global>, parker: &CountedParker) -> Result<Waker, AllocError>
+        ensures { IfOk result (λ waker. waker.unparker ≡ record { parker = parker.now.parker; times = 0 }) }
+    {
         let sleeper = Arc::try_clone(sleeper)?;
+        let unparker = parker.unparker()?;
         sleeper.ringers.fetch_add(1, Ordering::SeqCst);
-        Ok(Waker { sleeper })
+        Ok(Waker { sleeper, unparker })
     }
 
     // If a ring has to wake the bell, lets its thread go on, and the log notes that, as done at this place.
-    pub fn wake_if(&self, woken: bool, place: u32, log: &mut ThreadLog)
-        ensures { log.new.deeds ≡ log.old.deeds ++ waking place woken }
+    pub fn wake_if(&mut self, woken: bool, place: u32, log: &mut ThreadLog)
+        ensures noted { log.new.deeds ≡ log.old.deeds ++ waking place woken }
+        ensures unparked { self.new.unparker
+            ≡ (if woken then once_more self.old.unparker else self.old.unparker) }
     {
         if woken {
             self.unpark(place, log);
@@ -130,19 +172,23 @@ impl Waker {
     }
 
     // Lets the thread of a bell go on that was asleep, and the log notes it.
-    fn unpark(&self, place: u32, log: &mut ThreadLog)
-        ensures { log.new.deeds ≡ log.old.deeds ++ Woke place ∷ [] }
+    fn unpark(&mut self, place: u32, log: &mut ThreadLog)
+        ensures noted { log.new.deeds ≡ log.old.deeds ++ Woke place ∷ [] }
+        ensures unparked { self.new.unparker ≡ once_more self.old.unparker }
     {
-        self.sleeper.parker.unpark();
+        self.unparker.unpark();
         *log = log.after(&Deed::Woke(place));
     }
 }
 
 impl Drop for Waker {
     fn drop(self) {
-        let Self { sleeper } = self;
+        let Self {
+            sleeper,
+            mut unparker,
+        } = self;
         if sleeper.ringers.fetch_sub(1, Ordering::SeqCst) == 1 {
-            sleeper.parker.unpark();
+            unparker.unpark();
         }
     }
 }

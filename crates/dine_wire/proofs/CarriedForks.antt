@@ -23,6 +23,7 @@ use Rattle.dine_wire.specs.declared.note.ForkNote.{ForkNote}
 use Rattle.dine_wire.specs.declared.note.Note.{Note}
 use Rattle.dine_wire.specs.declared.note.Told.{Told}
 use Rattle.dine_wire.specs.declared.note.Told.TheVariants as told
+use Rattle.dine_wire.proofs.LettersOfRuns.{note_in_run}
 use Rattle.dine_wire.proofs.Arriving.{MayEat-next, MayMove-eaten_on, eaten_on-more, eaten_on-none, end_of_plan, ends_differ, fork_note-carried_on, meals_of-others}
 
 -- ---- forks of the plan
@@ -119,7 +120,7 @@ module _ (plan : SeenPlan) (edge : ℕ) (kept fork : SeenFork) (n : ℕ) (is : I
 read_back : (one other : Note) → IsInBytes one → IsInBytes other → bytes_of one ≡ bytes_of other → one ≡ other
 read_back one other first second same = grind (arith, common_steps)
 
-module _ (plan : SeenPlan) (is_plan : IsPlan plan) (edge : ℕ) (kept : SeenFork) (is : IsFork kept) (of_plan : IsOfPlan plan kept) (small : edge < 2 ^ 32) where
+module _ (plan : SeenPlan) (is_plan : IsPlan plan) (run edge : ℕ) (kept : SeenFork) (is : IsFork kept) (of_plan : IsOfPlan plan kept) (small : edge < 2 ^ 32) where
   -- the numbers fit into their bytes
   in_bytes : (n : ℕ) → MayCarryOn kept n → IsInBytes (record { edge = edge; told = told.Fork (fork_note (carried_on plan kept n)) })
   in_bytes n may =
@@ -137,14 +138,15 @@ module _ (plan : SeenPlan) (is_plan : IsPlan plan) (edge : ℕ) (kept : SeenFork
       )
 
   -- forks that are carried on from one fork and have the same bytes are one
-  pub same_bytes : (one other : SeenFork) → IsCarriedOn plan kept one → IsCarriedOn plan kept other → letter_bytes edge (letter.Fork one) ≡ letter_bytes edge (letter.Fork other) → one ≡ other
+  pub same_bytes : (one other : SeenFork) → IsCarriedOn plan kept one → IsCarriedOn plan kept other → letter_bytes run edge (letter.Fork one) ≡ letter_bytes run edge (letter.Fork other) → one ≡ other
   same_bytes one other first second bytes =
       let n = first.meals in
       let m = second.meals in
-      let bytes_too : letter_bytes edge (letter.Fork (carried_on plan kept n)) ≡ letter_bytes edge (letter.Fork (carried_on plan kept m)) =
-      ap (λ (f : SeenFork). letter_bytes edge (letter.Fork f)) (sym first.is) ∙ bytes ∙ ap (λ (f : SeenFork). letter_bytes edge (letter.Fork f)) second.is in
-      let notes = read_back (record { edge = edge; told = told.Fork (fork_note (carried_on plan kept n)) }) (record { edge = edge; told = told.Fork (fork_note (carried_on plan kept m)) })
-      (in_bytes n first.may) (in_bytes m second.may) bytes_too in
+      let bytes_too : letter_bytes run edge (letter.Fork (carried_on plan kept n)) ≡ letter_bytes run edge (letter.Fork (carried_on plan kept m)) =
+      ap (λ (f : SeenFork). letter_bytes run edge (letter.Fork f)) (sym first.is) ∙ bytes ∙ ap (λ (f : SeenFork). letter_bytes run edge (letter.Fork f)) second.is in
+      let mine : Note = record { edge = edge; told = told.Fork (fork_note (carried_on plan kept n)) } in
+      let theirs : Note = record { edge = edge; told = told.Fork (fork_note (carried_on plan kept m)) } in
+      let notes : mine ≡ theirs = read_back mine theirs (in_bytes n first.may) (in_bytes m second.may) (note_in_run run mine theirs bytes_too) in
       let ate : (fork_note (carried_on plan kept n)).ate ≡ (fork_note (carried_on plan kept m)).ate = ap (λ (note : Note). ate_in note.told) notes in
       let end = IsEnd-location kept is in
       let same : n ≡ m = omega (

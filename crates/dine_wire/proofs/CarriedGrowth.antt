@@ -52,8 +52,8 @@ module _ (plan : SeenPlan) (s edge : ℕ) where
   grows_by_take traffic letter.Done goes of_kept = λ k one h. goes k one (ap (λ (l : List SeenFork). slice_get l k) (sym (no_more_forks letter.Done traffic.taken refl)) ∙ h)
   grows_by_take traffic letter.Close goes of_kept = λ k one h. goes k one (ap (λ (l : List SeenFork). slice_get l k) (sym (no_more_forks letter.Close traffic.taken refl)) ∙ h)
 
-  pub bytes_grow : (taken : List Letter) (bytes : List ℕ) (l : Letter) → bytes ≡ letter_bytes edge l → bytes_of_each edge (taken ++ l ∷ []) ≡ bytes_of_each edge taken ++ bytes ∷ []
-  bytes_grow taken bytes l is = map-append (letter_bytes edge) taken (l ∷ []) ∙ ap (λ (b : List ℕ). bytes_of_each edge taken ++ b ∷ []) (sym is)
+  pub bytes_grow : (run : ℕ) (taken : List Letter) (bytes : List ℕ) (l : Letter) → bytes ≡ letter_bytes run edge l → bytes_of_each run edge (taken ++ l ∷ []) ≡ bytes_of_each run edge taken ++ bytes ∷ []
+  bytes_grow run taken bytes l is = map-append (letter_bytes run edge) taken (l ∷ []) ∙ ap (λ (b : List ℕ). bytes_of_each run edge taken ++ b ∷ []) (sym is)
 
   -- ---- which fork is kept
 

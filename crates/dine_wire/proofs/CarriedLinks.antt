@@ -25,6 +25,7 @@ use Rattle.dine_wire.specs.Arrivals.{IsOfPlan, meals_here}
 use Rattle.dine_wire.specs.Carried.{GoesOn, IsCarriedOn, IsOfKept, TakesByBytes, fork_for_next, kept_forks, letter_bytes}
 use Rattle.dine_wire.proofs.CarriedForks.{IsFork-carried_on, IsFork-opened, chained_is_carried, location-carried_on, of_plan, same_bytes}
 use Rattle.dine_wire.proofs.CarriedLists.{fork_like, same_front}
+use Rattle.dine_wire.proofs.LettersOfRuns.{first_put}
 
 -- a Fork among the letters is one of them
 at_letter : (letters : List Letter) (k : ℕ) (fork : SeenFork) → slice_get (forks_among letters) k ≡ Some fork → (j : ℕ) × (slice_get letters j ≡ Some (letter.Fork fork))
@@ -52,7 +53,7 @@ next_in taken put front fork h =
     subst (λ (l : List Letter). slice_get (forks_among l) (forks_in taken) ≡ Some fork) front.1
     (next_fork taken front.0 fork (ap (λ (l : List Letter). slice_get l (length taken)) front.1 ∙ h))
 
-module _ (plan : SeenPlan) (is_plan : IsPlan plan) (edge : ℕ) (within : edge < edge_count plan) where
+module _ (plan : SeenPlan) (is_plan : IsPlan plan) (run edge : ℕ) (within : edge < edge_count plan) where
   abbrev lo : ℕ
   lo = lo_of plan edge
 
@@ -135,19 +136,19 @@ module _ (plan : SeenPlan) (is_plan : IsPlan plan) (edge : ℕ) (within : edge <
       )
 
   -- a Fork that an end took is the one that the other end put, if that one is carried on from the fork that was kept
-  came : (s end : ℕ) (here there : Traffic) (k : ℕ) (kept one other : SeenFork) → TakesByBytes plan s edge here there → slice_get (kept_forks plan s edge here.put) k ≡ Some kept → IsThere end kept
+  came : (s end : ℕ) (here there : Traffic) (k : ℕ) (kept one other : SeenFork) → TakesByBytes plan run s edge here there → slice_get (kept_forks plan s edge here.put) k ≡ Some kept → IsThere end kept
       → slice_get (forks_among here.taken) k ≡ Some one → slice_get (forks_among there.put) k ≡ Some other → IsCarriedOn plan kept other → one ≡ other
   came s end here there k kept one other takes is_kept kept_there taken put other_carried =
       let goes : GoesOn plan (Some kept) one = subst (λ (o : Option SeenFork). GoesOn plan o one) is_kept (takes.forks k one taken) in
-      let like = fork_like edge here.taken there.put takes.comes.0 takes.comes.1 k one taken in
+      let like = fork_like run edge here.taken there.put (first_put plan run s edge here there takes).0 (first_put plan run s edge here there takes).1 k one taken in
       let same : like.0 ≡ other = same_Some like.0 other (sym like.1 ∙ put) in
-      same_bytes plan is_plan edge kept kept_there.is (of_plan_there end kept kept_there) small one other goes other_carried
-      (like.2 ∙ ap (λ (f : SeenFork). letter_bytes edge (letter.Fork f)) same)
+      same_bytes plan is_plan run edge kept kept_there.is (of_plan_there end kept kept_there) small one other goes other_carried
+      (like.2 ∙ ap (λ (f : SeenFork). letter_bytes run edge (letter.Fork f)) same)
 
   -- ---- there and back
 
   module _ (low_ate high_ate : ℕ) (low high : Traffic) (accounts_low : AccountsForFork plan lo edge low_ate low) (accounts_high : AccountsForFork plan hi edge high_ate high)
-      (takes_low : TakesByBytes plan lo edge low high) (takes_high : TakesByBytes plan hi edge high low) where
+      (takes_low : TakesByBytes plan run lo edge low high) (takes_high : TakesByBytes plan run hi edge high low) where
     -- the Forks put are those of the edge, with lawful logs
     own_low : (k : ℕ) (fork : SeenFork) → slice_get (forks_among low.put) k ≡ Some fork → (fork ≡ fork_with plan edge fork.log fork.value) × IsLawful fork.ends fork.due fork.log
     own_low k fork h = let w = at_letter low.put k fork h in let is = accounts_low.put_forks w.0 fork w.1 in (own_is plan edge fork is.0, is.1)
@@ -167,12 +168,12 @@ module _ (plan : SeenPlan) (is_plan : IsPlan plan) (edge : ℕ) (within : edge <
     -- what was taken is what the other end put
     taken_high : (k : ℕ) → LowCame k → (fork : SeenFork) → slice_get (forks_among high.taken) k ≡ Some fork → slice_get (forks_among low.put) k ≡ Some fork
     taken_high k low_came fork h =
-        let like = fork_like edge high.taken low.put takes_high.comes.0 takes_high.comes.1 k fork h in
+        let like = fork_like run edge high.taken low.put (first_put plan run hi edge high low takes_high).0 (first_put plan run hi edge high low takes_high).1 k fork h in
         like.1 ∙ ap (λ (f : SeenFork). Some f) (sym (low_came.came fork like.0 h like.1))
 
     taken_low : (k : ℕ) → HighCame k → (fork : SeenFork) → slice_get (forks_among low.taken) k ≡ Some fork → slice_get (forks_among high.put) k ≡ Some fork
     taken_low k high_came fork h =
-        let like = fork_like edge low.taken high.put takes_low.comes.0 takes_low.comes.1 k fork h in
+        let like = fork_like run edge low.taken high.put (first_put plan run lo edge low high takes_low).0 (first_put plan run lo edge low high takes_low).1 k fork h in
         like.1 ∙ ap (λ (f : SeenFork). Some f) (sym (high_came.came fork like.0 h like.1))
 
     -- what the higher end keeps: first the fork of the start; the lower end keeps what it put
@@ -240,8 +241,8 @@ module _ (plan : SeenPlan) (is_plan : IsPlan plan) (edge : ℕ) (within : edge <
     -- so each end took the first letters that the other put
     pub links_carry : AreRequestsOf edge low.put → AreRequestsOf edge low.taken → AreRequestsOf edge high.put → AreRequestsOf edge high.taken → AreLinked low high
     links_carry low_put low_taken high_put high_taken = record {
-      comes = same_front edge low.taken high.put takes_low.comes.0 takes_low.comes.1 (λ k. (high_step k (low_came k)).came) low_taken high_put;
-      goes = same_front edge high.taken low.put takes_high.comes.0 takes_high.comes.1 (λ k. (low_came k).came) high_taken low_put;
+      comes = same_front run edge low.taken high.put (first_put plan run lo edge low high takes_low).0 (first_put plan run lo edge low high takes_low).1 (λ k. (high_step k (low_came k)).came) low_taken high_put;
+      goes = same_front run edge high.taken low.put (first_put plan run hi edge high low takes_high).0 (first_put plan run hi edge high low takes_high).1 (λ k. (low_came k).came) high_taken low_put;
     }
 
     -- ---- the next letter

@@ -26,19 +26,19 @@ end_is plan s state i keeps within =
     record { accounts = accounts_for_fork plan s state i keeps within; put = at.put_requests; taken = at.taken_requests }
 
 -- the two ends of an edge, the lower first
-by_ends : (plan : SeenPlan) → IsPlan plan → (edge : ℕ) → edge < edge_count plan → (low_ate high_ate : ℕ) (low high : Traffic)
+by_ends : (plan : SeenPlan) → IsPlan plan → (run edge : ℕ) → edge < edge_count plan → (low_ate high_ate : ℕ) (low high : Traffic)
     → EndIs plan (lo_of plan edge) edge low_ate low → EndIs plan (hi_of plan edge) edge high_ate high
-    → TakesByBytes plan (lo_of plan edge) edge low high → TakesByBytes plan (hi_of plan edge) edge high low → AreLinked low high
-by_ends plan is_plan edge within low_ate high_ate low high is_low is_high takes_low takes_high =
-    links_carry plan is_plan edge within low_ate high_ate low high is_low.accounts is_high.accounts takes_low takes_high is_low.put is_low.taken is_high.put is_high.taken
+    → TakesByBytes plan run (lo_of plan edge) edge low high → TakesByBytes plan run (hi_of plan edge) edge high low → AreLinked low high
+by_ends plan is_plan run edge within low_ate high_ate low high is_low is_high takes_low takes_high =
+    links_carry plan is_plan run edge within low_ate high_ate low high is_low.accounts is_high.accounts takes_low takes_high is_low.put is_low.taken is_high.put is_high.taken
 
 turned : (here there : Traffic) → AreLinked here there → AreLinked there here
 turned here there linked = record { comes = linked.goes; goes = linked.comes }
 
-pub linked_by_bytes : (plan : SeenPlan) (s i other j : ℕ) (here there : LocalState) → IsPlan plan → AreEndsOfEdge plan s i other j → KeepsStreams plan s here → KeepsStreams plan other there
-    → TakesByBytes plan s (edge_at plan s i) (traffic_at here i) (traffic_at there j) → TakesByBytes plan other (edge_at plan s i) (traffic_at there j) (traffic_at here i)
+pub linked_by_bytes : (plan : SeenPlan) (run s i other j : ℕ) (here there : LocalState) → IsPlan plan → AreEndsOfEdge plan s i other j → KeepsStreams plan s here → KeepsStreams plan other there
+    → TakesByBytes plan run s (edge_at plan s i) (traffic_at here i) (traffic_at there j) → TakesByBytes plan run other (edge_at plan s i) (traffic_at there j) (traffic_at here i)
     → AreLinked (traffic_at here i) (traffic_at there j)
-linked_by_bytes plan s i other j here there is_plan ends keeps keeps_there takes takes_there =
+linked_by_bytes plan run s i other j here there is_plan ends keeps keeps_there takes takes_there =
     let edge : ℕ = edge_at plan s i in
     let place = placed plan s i is_plan ends.within in
     let mine : EndIs plan s edge here.ate (traffic_at here i) = end_is plan s here i keeps ends.within in
@@ -48,46 +48,46 @@ linked_by_bytes plan s i other j here there is_plan ends keeps keeps_there takes
       | inl low ↦
           let s_is : s ≡ lo_of plan edge = sym low.0 in
           let other_is : other ≡ hi_of plan edge = sym ends.across ∙ low.1 in
-          by_ends plan is_plan edge place.edge_within here.ate there.ate (traffic_at here i) (traffic_at there j)
+          by_ends plan is_plan run edge place.edge_within here.ate there.ate (traffic_at here i) (traffic_at there j)
           (subst (λ (e : ℕ). EndIs plan e edge here.ate (traffic_at here i)) s_is mine)
           (subst (λ (e : ℕ). EndIs plan e edge there.ate (traffic_at there j)) other_is theirs)
-          (subst (λ (e : ℕ). TakesByBytes plan e edge (traffic_at here i) (traffic_at there j)) s_is takes)
-          (subst (λ (e : ℕ). TakesByBytes plan e edge (traffic_at there j) (traffic_at here i)) other_is takes_there)
+          (subst (λ (e : ℕ). TakesByBytes plan run e edge (traffic_at here i) (traffic_at there j)) s_is takes)
+          (subst (λ (e : ℕ). TakesByBytes plan run e edge (traffic_at there j) (traffic_at here i)) other_is takes_there)
       | inr high ↦
           let s_is : s ≡ hi_of plan edge = sym high.0 in
           let other_is : other ≡ lo_of plan edge = sym ends.across ∙ high.1 in
           turned (traffic_at there j) (traffic_at here i)
-          (by_ends plan is_plan edge place.edge_within there.ate here.ate (traffic_at there j) (traffic_at here i)
+          (by_ends plan is_plan run edge place.edge_within there.ate here.ate (traffic_at there j) (traffic_at here i)
           (subst (λ (e : ℕ). EndIs plan e edge there.ate (traffic_at there j)) other_is theirs)
           (subst (λ (e : ℕ). EndIs plan e edge here.ate (traffic_at here i)) s_is mine)
-          (subst (λ (e : ℕ). TakesByBytes plan e edge (traffic_at there j) (traffic_at here i)) other_is takes_there)
-          (subst (λ (e : ℕ). TakesByBytes plan e edge (traffic_at here i) (traffic_at there j)) s_is takes))
+          (subst (λ (e : ℕ). TakesByBytes plan run e edge (traffic_at there j) (traffic_at here i)) other_is takes_there)
+          (subst (λ (e : ℕ). TakesByBytes plan run e edge (traffic_at here i) (traffic_at there j)) s_is takes))
     ]
 
 -- ---- the next letter
 
-next_of_ends : (plan : SeenPlan) → IsPlan plan → (edge : ℕ) → edge < edge_count plan → (low_ate high_ate : ℕ) (low high : Traffic)
+next_of_ends : (plan : SeenPlan) → IsPlan plan → (run edge : ℕ) → edge < edge_count plan → (low_ate high_ate : ℕ) (low high : Traffic)
     → EndIs plan (lo_of plan edge) edge low_ate low → EndIs plan (hi_of plan edge) edge high_ate high
-    → TakesByBytes plan (lo_of plan edge) edge low high → TakesByBytes plan (hi_of plan edge) edge high low
+    → TakesByBytes plan run (lo_of plan edge) edge low high → TakesByBytes plan run (hi_of plan edge) edge high low
     → (s : ℕ) (here there : Traffic) → ((s ≡ lo_of plan edge) × (here ≡ low) × (there ≡ high)) ⊎ ((s ≡ hi_of plan edge) × (here ≡ high) × (there ≡ low))
     → (l : Letter) → next_between here there ≡ Some l → IsOfKept plan (fork_for_next plan s edge here) edge l
-next_of_ends plan is_plan edge within low_ate high_ate low high is_low is_high takes_low takes_high s here there side =
-    let linked = by_ends plan is_plan edge within low_ate high_ate low high is_low is_high takes_low takes_high in
+next_of_ends plan is_plan run edge within low_ate high_ate low high is_low is_high takes_low takes_high s here there side =
+    let linked = by_ends plan is_plan run edge within low_ate high_ate low high is_low is_high takes_low takes_high in
     elim side as (λ side. (l : Letter) → next_between here there ≡ Some l → IsOfKept plan (fork_for_next plan s edge here) edge l) [
       | inl x ↦ λ l next.
           subst (λ (e : ℕ). IsOfKept plan (fork_for_next plan e edge here) edge l) (sym x.0) (subst (λ (t : Traffic). IsOfKept plan (fork_for_next plan (lo_of plan edge) edge t) edge l) (sym x.1)
-          (next_low plan is_plan edge within low_ate high_ate low high is_low.accounts is_high.accounts takes_low takes_high linked is_high.put l
+          (next_low plan is_plan run edge within low_ate high_ate low high is_low.accounts is_high.accounts takes_low takes_high linked is_high.put l
           (sym (ap (λ (t : Traffic). next_between t there) x.1 ∙ ap (λ (t : Traffic). next_between low t) x.2) ∙ next)))
       | inr x ↦ λ l next.
           subst (λ (e : ℕ). IsOfKept plan (fork_for_next plan e edge here) edge l) (sym x.0) (subst (λ (t : Traffic). IsOfKept plan (fork_for_next plan (hi_of plan edge) edge t) edge l) (sym x.1)
-          (next_high plan is_plan edge within low_ate high_ate low high is_low.accounts is_high.accounts takes_low takes_high linked is_low.put l
+          (next_high plan is_plan run edge within low_ate high_ate low high is_low.accounts is_high.accounts takes_low takes_high linked is_low.put l
           (sym (ap (λ (t : Traffic). next_between t there) x.1 ∙ ap (λ (t : Traffic). next_between high t) x.2) ∙ next)))
     ]
 
-pub next_by_bytes : (plan : SeenPlan) (s i other j : ℕ) (here there : LocalState) → IsPlan plan → AreEndsOfEdge plan s i other j → KeepsStreams plan s here → KeepsStreams plan other there
-    → TakesByBytes plan s (edge_at plan s i) (traffic_at here i) (traffic_at there j) → TakesByBytes plan other (edge_at plan s i) (traffic_at there j) (traffic_at here i)
+pub next_by_bytes : (plan : SeenPlan) (run s i other j : ℕ) (here there : LocalState) → IsPlan plan → AreEndsOfEdge plan s i other j → KeepsStreams plan s here → KeepsStreams plan other there
+    → TakesByBytes plan run s (edge_at plan s i) (traffic_at here i) (traffic_at there j) → TakesByBytes plan run other (edge_at plan s i) (traffic_at there j) (traffic_at here i)
     → (l : Letter) → next_between (traffic_at here i) (traffic_at there j) ≡ Some l → IsOfKept plan (fork_for_next plan s (edge_at plan s i) (traffic_at here i)) (edge_at plan s i) l
-next_by_bytes plan s i other j here there is_plan ends keeps keeps_there takes takes_there =
+next_by_bytes plan run s i other j here there is_plan ends keeps keeps_there takes takes_there =
     let edge : ℕ = edge_at plan s i in
     let place = placed plan s i is_plan ends.within in
     let mine : EndIs plan s edge here.ate (traffic_at here i) = end_is plan s here i keeps ends.within in
@@ -97,27 +97,27 @@ next_by_bytes plan s i other j here there is_plan ends keeps keeps_there takes t
       | inl low ↦
           let s_is : s ≡ lo_of plan edge = sym low.0 in
           let other_is : other ≡ hi_of plan edge = sym ends.across ∙ low.1 in
-          next_of_ends plan is_plan edge place.edge_within here.ate there.ate (traffic_at here i) (traffic_at there j)
+          next_of_ends plan is_plan run edge place.edge_within here.ate there.ate (traffic_at here i) (traffic_at there j)
           (subst (λ (e : ℕ). EndIs plan e edge here.ate (traffic_at here i)) s_is mine)
           (subst (λ (e : ℕ). EndIs plan e edge there.ate (traffic_at there j)) other_is theirs)
-          (subst (λ (e : ℕ). TakesByBytes plan e edge (traffic_at here i) (traffic_at there j)) s_is takes)
-          (subst (λ (e : ℕ). TakesByBytes plan e edge (traffic_at there j) (traffic_at here i)) other_is takes_there)
+          (subst (λ (e : ℕ). TakesByBytes plan run e edge (traffic_at here i) (traffic_at there j)) s_is takes)
+          (subst (λ (e : ℕ). TakesByBytes plan run e edge (traffic_at there j) (traffic_at here i)) other_is takes_there)
           s (traffic_at here i) (traffic_at there j) (inl (s_is, refl, refl))
       | inr high ↦
           let s_is : s ≡ hi_of plan edge = sym high.0 in
           let other_is : other ≡ lo_of plan edge = sym ends.across ∙ high.1 in
-          next_of_ends plan is_plan edge place.edge_within there.ate here.ate (traffic_at there j) (traffic_at here i)
+          next_of_ends plan is_plan run edge place.edge_within there.ate here.ate (traffic_at there j) (traffic_at here i)
           (subst (λ (e : ℕ). EndIs plan e edge there.ate (traffic_at there j)) other_is theirs)
           (subst (λ (e : ℕ). EndIs plan e edge here.ate (traffic_at here i)) s_is mine)
-          (subst (λ (e : ℕ). TakesByBytes plan e edge (traffic_at there j) (traffic_at here i)) other_is takes_there)
-          (subst (λ (e : ℕ). TakesByBytes plan e edge (traffic_at here i) (traffic_at there j)) s_is takes)
+          (subst (λ (e : ℕ). TakesByBytes plan run e edge (traffic_at there j) (traffic_at here i)) other_is takes_there)
+          (subst (λ (e : ℕ). TakesByBytes plan run e edge (traffic_at here i) (traffic_at there j)) s_is takes)
           s (traffic_at here i) (traffic_at there j) (inr (s_is, refl, refl))
     ]
 
 -- ---- all sites
 
-pub ordered_by_bytes : (plan : SeenPlan) (states : WorldState) → AreAllJoinedByBytes plan states → LinksAreOrdered plan states
-ordered_by_bytes plan states all s i is_site within =
+pub ordered_by_bytes : (plan : SeenPlan) (run : ℕ) (states : WorldState) → AreAllJoinedByBytes plan run states → LinksAreOrdered plan states
+ordered_by_bytes plan run states all s i is_site within =
     let is_plan = all.is_plan in
     let o : ℕ = neighbour_at plan s i in
     let ends = ends_at plan s i is_plan within in
@@ -126,6 +126,6 @@ ordered_by_bytes plan states all s i is_site within =
     let place : place_of plan s (edge_at plan o j) ≡ i = ap (place_of plan s) over.same_edge ∙ place_of-edge_at plan s i within in
     let back : traffic_across plan states o j ≡ traffic_at (state_of states s) i =
     ap (λ (x : ℕ). traffic_at (state_of states x) (place_of plan x (edge_at plan o j))) over.back ∙ ap (λ (x : ℕ). traffic_at (state_of states s) x) place in
-    let theirs = subst (λ (e : ℕ). TakesByBytes plan o e (traffic_at (state_of states o) j) (traffic_across plan states o j)) ends.same_edge (all.take o j over.is_site ends.within_there) in
-    (linked_by_bytes plan s i o j (state_of states s) (state_of states o) is_plan ends (all.keep s is_site) (all.keep o over.is_site) (all.take s i is_site within)
-    (subst (λ (t : Traffic). TakesByBytes plan o (edge_at plan s i) (traffic_at (state_of states o) j) t) back theirs)).comes
+    let theirs = subst (λ (e : ℕ). TakesByBytes plan run o e (traffic_at (state_of states o) j) (traffic_across plan states o j)) ends.same_edge (all.take o j over.is_site ends.within_there) in
+    (linked_by_bytes plan run s i o j (state_of states s) (state_of states o) is_plan ends (all.keep s is_site) (all.keep o over.is_site) (all.take s i is_site within)
+    (subst (λ (t : Traffic). TakesByBytes plan run o (edge_at plan s i) (traffic_at (state_of states o) j) t) back theirs)).comes

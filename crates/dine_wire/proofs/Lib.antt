@@ -1,4 +1,5 @@
 pub mod Arriving
+pub mod LettersOfRuns
 pub mod CarriedForks
 pub mod CarriedLists
 pub mod CarriedLinks

@@ -55,6 +55,7 @@ pub record CarriesOn (plan : SeenPlan) (kept : SeenFork) (note : ForkNote) (n : 
 abbrev pub DoesNotArrive : SeenPlan → SeenFork → ForkNote → WireFault → Type 0
 DoesNotArrive plan kept note fault.Length = ⊥
 DoesNotArrive plan kept note fault.Kind = ⊥
+DoesNotArrive plan kept note fault.OtherRun = ⊥
 DoesNotArrive plan kept note fault.Unlawful = (n : ℕ) → CarriesOn plan kept note n → ⊥
 DoesNotArrive plan kept note fault.Memory = (n : ℕ) × CarriesOn plan kept note n
 

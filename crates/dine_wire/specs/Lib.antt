@@ -1,4 +1,5 @@
 pub mod Faults
 pub mod Notes
+pub mod Runs
 pub mod Arrivals
 pub mod Carried

@@ -8,11 +8,8 @@ ghost use Rattle.dine_wire.specs.declared.note.Note.{Note as SeenNote};
 use crate::note::{ForkNote, Note, Told};
 use crate::wire_fault::WireFault;
 
-/// No note has more bytes than this.
-pub const NOTE_MAX: usize = 21;
-
 /// Writes the note to the front of `out`, which has at least 21 bytes. Returns the number of its bytes, 5 or 21.
-pub fn put_note(note: Note, out: &mut [u8]) -> usize
+pub(crate) fn put_note(note: Note, out: &mut [u8]) -> usize
     requires { 21 ≤ length out.old }
     ensures len { result ≡ length (bytes_of note) }
     ensures out { out.new ≡ bytes_of note ++ drop (length (bytes_of note)) out.old }
@@ -57,7 +54,7 @@ fn put_fork(edge: u32, fork: ForkNote, out: &mut [u8]) -> usize
 ///
 /// `Length` if there is no byte, or if a note of the kind that is first has another number of bytes. `Kind` if the
 /// first byte is no kind.
-pub fn read_note(bytes: &[u8]) -> Result<Note, WireFault>
+pub(crate) fn read_note(bytes: &[u8]) -> Result<Note, WireFault>
     ensures note { MatchResult result (λ note. bytes.now ≡ bytes_of note)
         (λ _. (note : SeenNote) → bytes.now ≡ bytes_of note → ⊥) }
     ensures fault { IfErr result (IsNoNote bytes.now) }

@@ -8,9 +8,10 @@ mod arrival;
 mod bytes;
 pub mod laws;
 mod note;
+mod runs;
 mod wire_fault;
 
 pub use arrival::{NotArrived, arrive, first_fork};
-pub use bytes::{NOTE_MAX, put_note, read_note};
 pub use note::{ForkNote, Note, Told, note_of};
+pub use runs::{LETTER_MAX, put_letter, read_letter};
 pub use wire_fault::WireFault;

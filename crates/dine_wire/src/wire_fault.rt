@@ -7,16 +7,18 @@ ghost use Rattle.dine_wire.specs.Faults.{number_of};
 pub enum WireFault {
     /// There are too few bytes, or too many.
     Length,
-    /// The first byte is no kind of letter.
+    /// The byte behind the number of the run is no kind of letter.
     Kind,
     /// The other end cannot have done with the fork what the note reports.
     Unlawful,
     /// An allocation failed.
     Memory,
+    /// The letter is of another run.
+    OtherRun,
 }
 
 impl WireFault {
-    /// Returns the number of the fault, 1 to 4.
+    /// Returns the number of the fault, 1 to 5.
     pub fn number(self) -> u32
         ensures { result ≡ number_of self }
     {
@@ -25,6 +27,7 @@ impl WireFault {
             WireFault::Kind => 2,
             WireFault::Unlawful => 3,
             WireFault::Memory => 4,
+            WireFault::OtherRun => 5,
         }
     }
 }

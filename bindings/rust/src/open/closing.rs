@@ -7,9 +7,9 @@
 
 use super::helping::Todo;
 use super::sites::State;
-use super::{jobs, lock, OpenTable, Stage};
+use super::{lock, OpenTable, Stage};
 use crate::table::{EdgeId, Graph, WorkerId};
-use crate::{Error, Event, Kind, Period, Plan, Result, Site, World};
+use crate::{Error, Event, Kind, Period, Result, Site, World};
 use std::collections::VecDeque;
 use std::sync::atomic::Ordering;
 use std::sync::{MutexGuard, PoisonError};
@@ -111,7 +111,8 @@ impl<T: Send, S: Send> OpenTable<T, S> {
         }
     }
 
-    /// Closes the table, and returns what is left. Those who wait get `Closed`; meals that have begun are waited for.
+    /// Closes the table, and returns what is left. Those who wait get `Closed`; meals that have begun are waited for. Each
+    /// worker that has meals left then eats one more, which is empty.
     ///
     /// # Errors
     ///
@@ -244,21 +245,21 @@ impl<T, S> Closed<T, S> {
     ///
     /// # Errors
     ///
-    /// - `NoSuch` if no journals were kept: see [`Table::keep_journals`](crate::Table::keep_journals).
+    /// - `NoJournals` if none were kept: see [`Table::keep_journals`](crate::Table::keep_journals).
     /// - `NotNow` if there is no order.
     pub fn order(&self) -> Result<u64> {
         if self.journals.is_empty() {
-            return Err(Error::NoSuch);
+            return Err(Error::NoJournals);
         }
         let mut count = 0;
         for journals in &self.journals {
             // The last meal of a site that gave up the rest was told as failed.
-            let text = self.graph.text(|at| {
+            let plan = self.graph.plan(|at| {
                 let has = |kind| journals[at].iter().filter(|it| it.kind == kind).count() as u32;
                 let fails = if has(Kind::Quit) > 0 { Some(has(Kind::Begin)) } else { None };
-                jobs(self.meals[at], fails)
-            });
-            let mut world = World::open(&Plan::read(&text)?)?;
+                (self.meals[at], fails)
+            })?;
+            let mut world = World::open(&plan)?;
             count += world.order(journals)?.len() as u64;
             if !world.enabled().is_empty() {
                 return Err(Error::NotNow);

@@ -96,7 +96,7 @@ impl<T: Send, S: Send> Table<T, S> {
     // Opens it with the number of meals that each site is to have, at most 1,000.
     pub(crate) fn open_for(self, meals: Vec<u32>) -> Result<OpenTable<T, S>> {
         let Table { graph, values, states, manner } = self;
-        let plan = Plan::read(&graph.text(|at| jobs(meals[at], None)))?;
+        let plan = graph.plan(|at| (meals[at], None))?;
         let seats = seats(&plan, &graph, values, states, manner.journals)?;
         let poisoned = graph.ends.iter().map(|_| AtomicBool::new(false)).collect();
         Ok(OpenTable {
@@ -114,12 +114,6 @@ impl<T: Send, S: Send> Table<T, S> {
             poisoned,
         })
     }
-}
-
-// The jobs of a site in the text of a plan, of which one may fail, by its number from 1.
-fn jobs(count: u32, fails: Option<u32>) -> String {
-    let job = |k| if fails == Some(k) { "{ name = \"x\", fails = true }" } else { "{ name = \"x\" }" };
-    (1..=count).map(job).collect::<Vec<_>>().join(", ")
 }
 
 // A seat for each worker, with the values of the forks that it has at the start.

@@ -10,12 +10,12 @@ use super::lock;
 use super::waiting::Waiter;
 use super::OpenTable;
 use crate::table::WorkerId;
-use crate::{Event, Kind, Result, Site, LETTER_MAX};
+use crate::{Event, Kind, Result, Site, KIND_AT, LETTER_MAX};
 use std::collections::VecDeque;
 use std::sync::atomic::{AtomicBool, Ordering};
 use std::sync::{Arc, Mutex};
 
-// The first byte of a letter.
+// The kinds of letters.
 const FORK: u8 = 1;
 const REQUEST: u8 = 2;
 
@@ -49,7 +49,7 @@ pub(super) struct Seat<T, S> {
 // A request that is here and not taken yet.
 #[derive(Clone, Copy, Default)]
 struct PutOff {
-    letter: [u8; 5],
+    letter: [u8; KIND_AT + 5],
     // The meals of the worker when it came.
     ate: u32,
 }
@@ -182,7 +182,7 @@ impl<T: Send, S: Send> OpenTable<T, S> {
     fn arrive(&self, seat: &Seat<T, S>, state: &mut State<T, S>, post: Post<T>) -> Result<()> {
         let i = usize::from(post.place);
         let letter = &post.letter[..usize::from(post.len)];
-        if letter[0] == REQUEST && self.manner.patience > 0 {
+        if letter[KIND_AT] == REQUEST && self.manner.patience > 0 {
             // If nobody is here, nothing is put off.
             let is_urgent = post.is_urgent || state.is_idle();
             state.put_off |= bit(post.place);
@@ -193,7 +193,7 @@ impl<T: Send, S: Send> OpenTable<T, S> {
         }
         state.note(seat.number, Kind::Take(u32::from(post.place)));
         state.site.take(letter)?;
-        if letter[0] == FORK {
+        if letter[KIND_AT] == FORK {
             state.has_fork(i, post.value);
             state.clean |= bit(post.place);
         }

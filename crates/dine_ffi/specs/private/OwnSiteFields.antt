@@ -7,7 +7,7 @@ use Rattle.dine_ffi.specs.declared.own_site.OwnSite.TheInside.{Inside}
 
 -- the site that the fields represent
 abbrev pub seen_own_site : Inside → SeenOwnSite
-seen_own_site site = record { plan = site.plan; core = site.core; meal = site.meal; shelf = site.shelf.items }
+seen_own_site site = record { plan = site.plan; run = site.run; core = site.core; meal = site.meal; shelf = site.shelf.items }
 
 -- if the core eats, the meal is its meal; else there is none
 abbrev pub HasOwnMeal : Inside → Type 0

@@ -7,7 +7,7 @@ use Rattle.dine_ffi.specs.declared.thing.Kept.TheVariants as kept
 use Rattle.dine_ffi.specs.declared.thing.Thing.{Thing}
 use Rattle.dine_ffi.proofs.OnSites.{on_site, value_is}
 use Rattle.dine_ffi.proofs.site_calls.dine_raw_site_take.Goals as goal
-use Rattle.dine_ffi.proofs.site_calls.dine_raw_site_take.Goals.{in-Site, in-Plan-1, in-World-1}
+use Rattle.dine_ffi.proofs.site_calls.dine_raw_site_take.Goals.{in-Site, in-Plan-1, in-World-1, in-Builder-1}
 
 pub returns : goal.returns
 returns c = record {
@@ -24,5 +24,6 @@ returns c = record {
         (subst (λ (r : ℤ). TakesOrRefuses c.args.letter.now r own after) (sym (w.answer-is ∙ to_z-of_z w64 result fits)) w.take-answer.ensures)
     | in-Plan-1 w ↦ search rules
     | in-World-1 w ↦ search rules
+    | in-Builder-1 w ↦ search rules
   ];
 }

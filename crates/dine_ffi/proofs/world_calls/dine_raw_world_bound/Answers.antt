@@ -10,7 +10,7 @@ use Rattle.dine_ffi.specs.declared.thing.Kept.{Kept}
 use Rattle.dine_ffi.specs.declared.thing.Thing.{Thing}
 use Rattle.dine_ffi.proofs.OfSites.{no_world}
 use Rattle.dine_ffi.proofs.world_calls.dine_raw_world_bound.Goals as goal
-use Rattle.dine_ffi.proofs.world_calls.dine_raw_world_bound.Goals.{in-World, in-Plan, in-Plan-2}
+use Rattle.dine_ffi.proofs.world_calls.dine_raw_world_bound.Goals.{in-World, in-Plan, in-Plan-2, in-Plan-3}
 
 pub returns-clause-answer : goal.returns-clause-answer
 returns-clause-answer c =
@@ -25,4 +25,5 @@ returns-clause-answer c =
           (subst (λ (k : Kept). OfWorld k w.bound-answer.result (P w.bound-answer.result)) (sym (kept ∙ w.in-World.is)) w.bound-answer.ensures)
       | in-Plan w ↦ subst (λ (k : Kept). OfWorld k r (P r)) (sym kept) (no_world c.deref.result.now.kept r (P r) w.in-Plan.is w.answer-is)
       | in-Plan-2 w ↦ subst (λ (k : Kept). OfWorld k r (P r)) (sym kept) (no_world c.deref.result.now.kept r (P r) w.in-Plan.is w.answer-is)
+      | in-Plan-3 w ↦ subst (λ (k : Kept). OfWorld k r (P r)) (sym kept) (no_world c.deref.result.now.kept r (P r) w.in-Plan.is w.answer-is)
     ])

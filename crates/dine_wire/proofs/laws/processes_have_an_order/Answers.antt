@@ -5,6 +5,6 @@ use Rattle.dine_wire.proofs.laws.processes_have_an_order.Goals as goal
 pub returns : goal.returns
 returns c = record {
   links = ordered_by_bytes;
-  order = λ plan journals states all sites journal quits complete timed.
-      order_shown plan journals states all.is_plan (record { sites = sites; each = journal; links = ordered_by_bytes plan states all }) quits complete timed;
+  order = λ plan run journals states all sites journal quits complete timed.
+      order_shown plan journals states all.is_plan (record { sites = sites; each = journal; links = ordered_by_bytes plan run states all }) quits complete timed;
 }

@@ -18,5 +18,6 @@ returns c =
         forks = subst (λ (core : SeenCore). ForEachState core (λ plan state. c.begin-meal.result.forks ≡ forks_in_hand plan core.site (after plan core.site state step.Begin) (all_places state))) core c.begin-meal.ensures.in_hand;
         shelf = ap (λ (site : SeenOwnSite). site.shelf) c.self.view_is;
         plan = ap (λ (site : SeenOwnSite). site.plan) c.self.view_is;
+        run = ap (λ (site : SeenOwnSite). site.run) c.self.view_is;
       },
     )

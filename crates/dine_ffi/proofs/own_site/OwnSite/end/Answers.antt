@@ -17,5 +17,6 @@ returns-in-Some c =
         meal = c.take.ensures.after;
         shelf = ap (λ (site : SeenOwnSite). site.shelf) c.self.view_is;
         plan = ap (λ (site : SeenOwnSite). site.plan) c.self.view_is;
+        run = ap (λ (site : SeenOwnSite). site.run) c.self.view_is;
       },
     )

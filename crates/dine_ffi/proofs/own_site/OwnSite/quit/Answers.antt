@@ -12,6 +12,7 @@ returns c = (
     core = subst (λ (core : SeenCore). CoreSteps step.Quit core c.quit.new.self) (ap (λ (site : SeenOwnSite). site.core) c.self.view_is) c.quit.ensures.step;
     shelf = ap (λ (site : SeenOwnSite). site.shelf) c.self.view_is;
     plan = ap (λ (site : SeenOwnSite). site.plan) c.self.view_is;
+    run = ap (λ (site : SeenOwnSite). site.run) c.self.view_is;
     meal = ap (λ (site : SeenOwnSite). site.meal) c.self.view_is;
   },
 )

@@ -22,7 +22,7 @@ index_within (y ∷ ys) (suc i) x h = omega (arith, index_within ys i x h)
 pub returns-in-Ok-take-clause-done : goal.returns-in-Ok-take-clause-done
 returns-in-Ok-take-clause-done c =
     let w = c.in-Ok.ensures.back in
-    let new : SeenOwnSite = record { plan = c.self.inside.plan; core = c.take.new.core; meal = c.self.inside.meal; shelf = c.take_back.new.shelf.items } in
+    let new : SeenOwnSite = record { plan = c.self.inside.plan; run = c.self.inside.run; core = c.take.new.core; meal = c.self.inside.meal; shelf = c.take_back.new.shelf.items } in
     let carried : IsCarriedOn c.self.inside.plan w.0 c.in-Ok.fork = subst (λ (p : SeenPlan). IsCarriedOn p w.0 c.in-Ok.fork) c.plan-2.ensures (record { meals = w.1; may = w.3; is = w.4 }) in
     λ done. (
       c.in-Ok.fork,
@@ -32,6 +32,7 @@ returns-in-Ok-take-clause-done c =
         core = c.in-Ok-take.ensures.step;
         shelf = w.6;
         plan = refl;
+        run = refl;
         meal = refl;
       }),
     )

@@ -10,7 +10,7 @@ use Rattle.dine_ffi.proofs.own_site.OwnSite.take_word.Goals as goal
 
 -- the site afterwards
 abbrev new : goal.After-status_of → SeenOwnSite
-new c = record { plan = c.self.inside.plan; core = c.take.new.core; meal = c.self.inside.meal; shelf = c.self.inside.shelf.items }
+new c = record { plan = c.self.inside.plan; run = c.self.inside.run; core = c.take.new.core; meal = c.self.inside.meal; shelf = c.self.inside.shelf.items }
 
 pub returns-clause-done : goal.returns-clause-done
 returns-clause-done c = λ done.

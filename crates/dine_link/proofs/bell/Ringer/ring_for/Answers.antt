@@ -10,5 +10,5 @@ returns-clause-noted g c =
     let woken = c.in_ok-woken.woken in
     record {
       woken = woken;
-      deeds = c.wake_if.ensures ∙ ap (λ (ds : List Deed). ds ++ waking c.args.place woken) c.in_ok-woken.ensures.noted ∙ append_assoc c.args.log.now.deeds (Rang c.args.place c.args.kind woken ∷ []) (waking c.args.place woken);
+      deeds = c.wake_if.ensures.noted ∙ ap (λ (ds : List Deed). ds ++ waking c.args.place woken) c.in_ok-woken.ensures.noted ∙ append_assoc c.args.log.now.deeds (Rang c.args.place c.args.kind woken ∷ []) (waking c.args.place woken);
     }
