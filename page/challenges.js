@@ -1,5 +1,6 @@
 // Challenges with a score, and the best so far, which this browser keeps and a link names.
 
+import { KINDS } from "./columns.js";
 import { keep, kept } from "./moments.js";
 
 const BEST = "dine-best";
@@ -14,7 +15,9 @@ export function challengeOf(moment) {
 
 // The place of the first meal of a site behind a place, or the end.
 function firstMeal({ events: { sites, kinds }, at }, begun, site) {
-  for (let place = begun; place < at; place += 1) if (kinds[place] === "b" && sites[place] === site) return place;
+  for (let place = begun; place < at; place += 1) {
+    if (kinds[place] === KINDS.begin && sites[place] === site) return place;
+  }
   return at;
 }
 
@@ -43,7 +46,7 @@ export function scoreOf(schedule, begun, moment) {
   const near = new Set(state.edges.filter(({ ends }) => ends.includes(hungry)).flatMap(({ ends }) => ends));
   let meals = 0;
   for (let place = begun; place < end; place += 1) {
-    if (events.kinds[place] === "b" && !near.has(events.sites[place])) meals += 1;
+    if (events.kinds[place] === KINDS.begin && !near.has(events.sites[place])) meals += 1;
   }
   return meals;
 }

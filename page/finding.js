@@ -1,5 +1,6 @@
 // Finds a run in which a site waits long: the proved rules are asked for random runs until one has such a wait.
 
+import { KINDS } from "./columns.js";
 import { drawn } from "./schedule.js";
 
 // How many random runs are asked for at most, for how long, in milliseconds, and how many choices a run has at most.
@@ -11,8 +12,9 @@ export function longestWait({ sites, kinds }, site) {
   let [begun, longest] = [0, { from: 0, to: 0 }];
   for (let at = 0; at < kinds.length; at += 1) {
     if (sites[at] !== site) continue;
-    if (kinds[at] === "h") begun = at;
-    if (kinds[at] === "b" && at - begun > longest.to - longest.from) longest = { from: begun, to: at };
+    if (kinds[at] === KINDS.hungry) begun = at;
+    const isLongest = kinds[at] === KINDS.begin && at - begun > longest.to - longest.from;
+    if (isLongest) longest = { from: begun, to: at };
   }
   return longest;
 }

@@ -17,7 +17,7 @@ import {
   openNext, openScheduleOf, removeMoment, showNext, writeMoment,
 } from "./teach.js";
 import {
-  keyOfState, nameOf, noteAddress, openPicture, select, shellLine, show, showKinds, writeAddress,
+  forgetAddress, keyOfState, nameOf, noteAddress, openPicture, select, shellLine, show, showKinds, writeAddress,
 } from "./view.js";
 import { DINE_SITE } from "./site.js";
 import { eventOf } from "./touch.js";
@@ -337,6 +337,7 @@ function pathOf(plan) {
 
 // Shows what the address says, or else the plan or the lesson that the page was made for.
 async function openAddress(address = location.hash) {
+  forgetAddress();
   await queue.do(async () => {
     const said = await momentOf(address);
     if (said.by) found("pick").value = said.by;
@@ -379,7 +380,9 @@ function openFront() {
 async function goHome() {
   pause();
   await openAddress("");
+  // At once, so that the way back of the browser leads from here also to who takes it within the next moment.
   page.isTurned = true;
+  await writeAddress();
   scrollTo(0, 0);
 }
 

@@ -2,12 +2,31 @@
 // of TOML as plans have. The program decides whether a text is a plan.
 
 // The keys of each table, with the version from which they are allowed and the kind of their values.
+// words keys, by tools/words
 const PLAN_KEYS = {
-  document: { version: [1, "number"], site: [1, "array"], edge: [1, "array"] },
-  site: { name: [1, "text"], jobs: [1, "array"], on_fault: [2, "text"] },
-  job: { name: [1, "text"], turns: [1, "number"], fails: [1, "truth"], add: [2, "number"], set: [2, "number"] },
-  edge: { ends: [1, "array"], value: [2, "number"] },
+  "document": {
+    "version": [1, "number"],
+    "site": [1, "array"],
+    "edge": [1, "array"]
+  },
+  "site": {
+    "name": [1, "text"],
+    "jobs": [1, "array"],
+    "on_fault": [2, "text"]
+  },
+  "job": {
+    "name": [1, "text"],
+    "turns": [1, "number"],
+    "fails": [1, "truth"],
+    "add": [2, "number"],
+    "set": [2, "number"]
+  },
+  "edge": {
+    "ends": [1, "array"],
+    "value": [2, "number"]
+  }
 };
+// end
 const NEEDED_KEYS = { site: "name", job: "name", edge: "ends" };
 const KINDS_SAID = {
   number: "a whole number from 0", text: "a text in quotes", truth: "true or false", array: "an array",

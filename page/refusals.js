@@ -1,29 +1,31 @@
-// Why a plan is refused, in a sentence, and the line of its text that it is about. tools/explain reads the sentences
-// too, so they are written as JSON.
+// Why a plan is refused, in a sentence, and the line of its text that it is about. features/explain.py reads the
+// sentences too, so they are written as JSON.
 
 import { spotOf } from "./plan_places.js";
 
+// words causes, by tools/words
 const SENTENCES = {
-  "NotToml": "The text is not TOML.",
-  "Version": "The plan must begin with version = 1 or version = 2.",
-  "UnknownKey": "A table has a key that plans do not have, or not in this version.",
-  "MissingKey": "A site or a job has no name, or an edge has no ends.",
-  "WrongKind": "A value is of the wrong kind, such as a text for a number, or a number below 0.",
-  "BadName": "A name of this site or of a job of it is not 1 to 32 letters, digits, _ or -.",
-  "SiteTwice": "An earlier site has the same name.",
-  "NoSite": "The plan has no site.",
-  "TooManySites": "The plan has more than 64 sites.",
+  "NotToml": "The text is no TOML, or no UTF-8.",
+  "Version": "The plan has no version, or one that is not the whole number 1 or 2.",
+  "UnknownKey": "A table has a key that plans do not have there, or not in this version.",
+  "MissingKey": "A site or a job has no name, or an edge no ends.",
+  "WrongKind": "A value is of the wrong kind, such as a text for a number, or is a number below 0.",
+  "BadName": "The name of this site, or of one of its jobs, is not 1 to 32 ASCII letters, digits, _ or -.",
+  "SiteTwice": "An earlier site has the name of this site.",
+  "NoSite": "There is no site.",
+  "TooManySites": "There are more than 64 sites.",
   "TooManyJobs": "This site has more than 1,000 jobs.",
   "TurnsTooLarge": "A job of this site has turns above 1,000,000.",
-  "UnknownEnd": "An end of this edge is not the name of a site.",
+  "UnknownEnd": "An end of this edge is no site's name.",
   "Loop": "Both ends of this edge are one site.",
-  "EdgeTwice": "An earlier edge joins the same two sites.",
-  "TooManyEdges": "The plan has more than 512 edges.",
+  "EdgeTwice": "An earlier edge joins the two sites of this one.",
+  "TooManyEdges": "There are more than 512 edges.",
   "TwoActs": "A job of this site has both add and set.",
   "ActTooLarge": "A job of this site has add or set above 1,000,000.",
   "ValueTooLarge": "The value of this edge is above 1,000,000.",
-  "UnknownPolicy": "on_fault of this site is neither \"go\" nor \"resign\"."
+  "UnknownPolicy": "on_fault of this site is neither go nor resign."
 };
+// end
 
 // A fault in words that the page shows at its head: the sentence of a refusal, or the line as it is.
 export function faultText(line, text) {

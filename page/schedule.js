@@ -1,6 +1,7 @@
 // A plan and the choices on it: which events were done, which may follow, and the state after each of them, as the
 // program tells it.
 
+import { FAILED, KINDS, TAKEN } from "./columns.js";
 import { between } from "./marks.js";
 
 // How many states are kept, the least and the most, and of how many letters in all.
@@ -8,9 +9,6 @@ const KEPT = { least: 40, most: 300, letters: 30e6 };
 // How many states before the one that is wanted are asked for with it, of how many letters, and how near the reader may
 // come to the first that is kept before those are asked for.
 const BEFORE = { states: 20, letters: 1.5e6, margin: 8 };
-// The letter by which the program names a kind of event in a column.
-const KINDS = { hungry: "h", ask: "a", give: "g", begin: "b", end: "e", quit: "q", done: "d", close: "c" };
-const TAKEN = { request: "A", fork: "G", done: "D", close: "C" };
 
 // A number below `count` for this seed and place, the same each time.
 export function drawn(seed, place, count) {
@@ -23,7 +21,7 @@ export function drawn(seed, place, count) {
 
 function letterOf(event) {
   if (event.kind === "take") return TAKEN[event.letter];
-  return event.kind === "end" && event.failed ? "x" : KINDS[event.kind];
+  return event.kind === "end" && event.failed ? FAILED : KINDS[event.kind];
 }
 
 // The events of a list in columns, so that many take little memory.

@@ -1,5 +1,7 @@
 // What the events of a list come to: who waited and ate from when to when, and where each fork went.
 
+import { FAILED, KINDS, TAKEN } from "./columns.js";
+
 // The spans of each site and the moves of the forks, each by its places in the list. What has not ended ends at null.
 // `given` has the forks on their way, by their edges.
 export class Spans {
@@ -17,17 +19,17 @@ export class Spans {
 
   add(kind, site, edge, place) {
     const [waits, meals] = [this.waits[site], this.meals[site]];
-    if (kind === "h") {
+    if (kind === KINDS.hungry) {
       waits.push({ from: place + 0.5, to: null });
-    } else if (kind === "b") {
+    } else if (kind === KINDS.begin) {
       waits.at(-1).to = place;
       meals.push({ from: place, to: null });
-    } else if (kind === "e" || kind === "x") {
-      Object.assign(meals.at(-1), { to: place + 1, hasFailed: kind === "x" });
-    } else if (kind === "g") {
+    } else if (kind === KINDS.end || kind === FAILED) {
+      Object.assign(meals.at(-1), { to: place + 1, hasFailed: kind === FAILED });
+    } else if (kind === KINDS.give) {
       const other = this.edges[edge].ends.find((it) => it !== site);
       this.given.set(edge, { edge, site, from: place, other, to: null });
-    } else if (kind === "G") {
+    } else if (kind === TAKEN.fork) {
       this.moves.push({ ...this.given.get(edge), to: place });
       this.given.delete(edge);
     }

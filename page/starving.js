@@ -1,13 +1,16 @@
 // A challenge: the reader picks the events, and tries to keep one site hungry. The page counts what the others eat, and
 // says of each neighbour why it can't eat on and on.
 
+import { KINDS } from "./columns.js";
 import { setText } from "./marks.js";
 import { otherEnd } from "./sentences.js";
 
 // How many meals each site began from a place of the events to another, or to the first one of the hungry site.
 function mealsBetween(place, end, { sites, kinds }, state, hungry) {
   const meals = state.sites.map(() => 0);
-  for (let at = place; at < end && meals[hungry] === 0; at += 1) if (kinds[at] === "b") meals[sites[at]] += 1;
+  for (let at = place; at < end && meals[hungry] === 0; at += 1) {
+    if (kinds[at] === KINDS.begin) meals[sites[at]] += 1;
+  }
   return meals;
 }
 

@@ -333,6 +333,7 @@ function isAtMoment() {
 }
 
 let noting = null;
+let writes = 0;
 
 export function noteAddress() {
   clearTimeout(noting);
@@ -341,14 +342,24 @@ export function noteAddress() {
   }, QUIET);
 }
 
-// Writes the address of the moment that is shown, and returns it.
+// What is to be written is no longer shown: another address is opened.
+export function forgetAddress() {
+  clearTimeout(noting);
+  writes += 1;
+}
+
+// Writes the address of the moment that is shown, and returns it. While an address is made, a later moment may be
+// written: then that one stays.
 export async function writeAddress() {
+  clearTimeout(noting);
+  const write = ++writes;
   const { path, plan, list, at, isOfThreads } = page.schedule;
   const how = { by: found("pick").value, seed: seed(), speed: Number(found("speed").value) };
   const { lesson, moment, isTurned, isFront, record: best } = page;
   const shown = { path, plan, list, at, isOfThreads, ...how, lesson, moment, best, isAtMoment: isAtMoment() };
   const said = isFront ? "" : await addressOf(shown);
   const address = location.href.replace(/#.*/s, "") + said;
+  if (write !== writes) return address;
   page.isTurned = false;
   try {
     // The way back of the browser leads to the moment or the plan before, and not through each event.

@@ -1,5 +1,4 @@
-"""How the tests call the programs and ./show, what the heads of plans and the pages show, and programs that call the
-crates."""
+"""How the tests call the programs and ./show, and what the heads of plans and the pages show."""
 import functools
 import json
 import os
@@ -11,8 +10,11 @@ import time
 from contextlib import contextmanager
 from pathlib import Path
 
-import fresh
-from trying import HOME, Answer, answer_of, paths, program_of, text_of, write
+import pytest
+from lib import stamps
+from lib.crates import program_of
+from lib.files import HOME, lock_folder, paths, text_of
+from lib.process import Answer, answer_of
 
 TWO_SITES = 'version = 1\n[[site]]\nname = "a"\n[[site]]\nname = "b"\n'
 REFUSED = "dine: plan refused: "
@@ -25,8 +27,11 @@ HAS_KIT = bool(shutil.which("rt"))
 @functools.cache
 def fault_of_build(crate, is_unproved=False):
     """Has tools/build build what is missing or older than a source. Returns its output if it can't."""
+    # Who needs a program that is there does not wait for another one.
+    if stamps.is_current(crate, program_of(crate, is_unproved)):
+        return ""
     # The processes of pytest -n take turns.
-    held = fresh.lock(os.path.dirname(__file__))
+    held = lock_folder(os.path.dirname(__file__))
     built = answer_of([*["--unproved"] * is_unproved, crate], f"{HOME}/tools/build", None, stdin=subprocess.DEVNULL)
     os.close(held)
     return built.error if built.status else ""
@@ -37,10 +42,9 @@ def called(crate):
     """Returns the path of the program of a crate that the tests call. Skips the test if it can't be had here."""
     if HAS_KIT:
         return program_of(crate, **HOW)
-    import pytest  # Only the tests have it: bench/library calls this module too.
     try:
-        found = crate in fresh.COMMITTED and fresh.committed(crate)
-    except fresh.Stale as fault:
+        found = crate in stamps.COMMITTED and stamps.committed(crate)
+    except stamps.Stale as fault:
         pytest.skip(str(fault))
     return found or pytest.skip(f"there is no kit to build {crate}")
 
@@ -98,6 +102,16 @@ def stored_texts():
             yield name, line, TWO_SITES * name.endswith("behind_two_sites") + text
 
 
+def copy_repository(folder, *without):
+    """Copies the repository to a folder, without git's part, what is built, and what has one of these names."""
+    names = {".git", "out", "target", "__pycache__", ".pytest_cache", *without}
+
+    def left_out(at, _):
+        return names | {"lib"} if at == f"{HOME}/bindings" else names
+
+    shutil.copytree(HOME, folder, ignore=left_out)
+
+
 @contextmanager
 def shown(*words, program=f"{HOME}/show", **how):
     """Yields the process of a server of ./show, with its address and its port, and ends it by Ctrl-C."""
@@ -128,12 +142,3 @@ def blocks(page):
     """Returns the indented blocks of a page, without the indent."""
     found = re.findall(r"(?:^    .*\n|^\n(?=    ))+", text_of(page), re.MULTILINE)
     return [re.sub(r"^    ", "", it, flags=re.MULTILINE).strip("\n") + "\n" for it in found]
-
-
-def add_program(name, line, source, folder):
-    """Adds a crate with a program, and its line in crates.txt, to a repository of copy_crates. Returns its folder."""
-    crate = os.path.join(folder, "crates", name)
-    os.makedirs(os.path.join(crate, "src"))
-    write(f"{crate}/src/main.rt", source)
-    write(f"{folder}/crates.txt", text_of(f"{folder}/crates.txt") + f"{name} {line}\n")
-    return crate

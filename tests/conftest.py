@@ -5,10 +5,10 @@ import os
 import pytest
 
 import calls
-from trying import text_of, write
+from lib.files import text_of, write
 
 # Its fixtures are for all tests, and its assertions say what differs.
-pytest_plugins = ["browsing"]
+pytest_plugins = ["chromium"]
 KINDS = ("passed", "failed", "skipped")
 
 

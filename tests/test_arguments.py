@@ -5,7 +5,8 @@ import time
 
 import pytest
 from calls import dine, lists
-from trying import Answer, text_of
+from lib.files import text_of
+from lib.process import Answer
 
 pytestmark = pytest.mark.built("dine_cli")
 USAGE = "dine [run [--table edges|sites] [--links channel|ring] | replay [--choices LIST] | check]"

@@ -1,14 +1,13 @@
-"""Tries the article, docs/article.html: its figures in a headless Chromium, its text, and what tools/article and
-tools/exports.py say of it."""
+"""Tries the article, docs/article.html: its figures in a headless Chromium, its text, and what tools/article says of
+it."""
 import html
-import importlib.machinery
-import importlib.util
 import re
 
-import exports
 import pytest
-from browsing import FILE, opened
-from trying import HOME, Answer, answer_of, text_of
+from chromium import FILE, opened
+from lib import article_file, page_file
+from lib.files import HOME, text_of
+from lib.process import Answer, answer_of
 
 ARTICLE = FILE.replace("index.html", "article.html")
 # What happens between the two sites, and which lines of the algorithm say so.
@@ -19,14 +18,6 @@ LINES = {"grows": "grow hungry", "asks": "send the token", "gives": "wash the fo
          "request": "a token arrives", "fork": "a fork arrives"}
 # The sizes of the windows of students, in points.
 SIZES = [(320, 568), (390, 844), (844, 390), (768, 1024), (1280, 800), (1920, 1080)]
-
-
-def tool():
-    """Returns the tool as a module: its name has no ending."""
-    loader = importlib.machinery.SourceFileLoader("article_tool", f"{HOME}/tools/article")
-    found = importlib.util.module_from_spec(importlib.util.spec_from_loader("article_tool", loader))
-    loader.exec_module(found)
-    return found
 
 
 @pytest.fixture
@@ -130,24 +121,25 @@ def test_text_can_be_read_without_the_figures():
 def test_card(name):
     """Before a page is published it says its title and description, and afterwards also its address and a picture."""
     page = text_of(f"page/{name}")
-    title, description = exports.HEAD.search(page).groups()
-    tags = exports.card_of(page, name, "")
+    title, description = page_file.HEAD.search(page).groups()
+    tags = page_file.card_of(page, name, "")
     assert f'"og:title" content="{title}"' in tags and f'"og:description" content="{description}"' in tags
     assert "og:url" not in tags and "canonical" not in tags
-    tags = exports.card_of(page, name, "https://example.org/dine/")
+    tags = page_file.card_of(page, name, "https://example.org/dine/")
     own = "https://example.org/dine/" + name.replace("index.html", "")
     assert f'<link rel="canonical" href="{own}">' in tags and f'"og:url" content="{own}"' in tags
     assert '"og:image" content="https://example.org/dine/page.png"' in tags
-    assert exports.card_of(page, name, exports.site()) in text_of(f"docs/{name}")
+    assert page_file.card_of(page, name, page_file.site()) in text_of(f"docs/{name}")
 
 
 @pytest.mark.early
 def test_faults_of_an_article():
     """A link that leads nowhere is reported, and a number of the table of costs."""
-    page, its = exports.article(), tool()
-    assert [*its.faults_of_links(page)] == [] and its.faults_of_costs(page) == []
+    page = article_file.article()
+    assert [*article_file.faults_of_links(page)] == [] and article_file.faults_of_costs(page) == []
     broken = page.replace('href="PROVED.md"', 'href="PROVES.md"').replace("#why-it-works", "#why-it-fails")
-    assert [*its.faults_of_links(broken)] == ["there is no docs/PROVES.md", "docs/MODEL.md has no part why-it-fails"]
-    number = re.search(r"\d+\.\d", its.table_of_costs())[0]
-    assert its.faults_of_costs(page.replace("<h2 id", f"<p>It costs {number} times as much.</p><h2 id", 1)) == [
-        f"{number} is a number of the table of costs in README.md"]
+    assert [*article_file.faults_of_links(broken)] == [
+        "there is no docs/PROVES.md", "docs/MODEL.md has no part why-it-fails"]
+    number = re.search(r"\d+\.\d", article_file.table_of_costs())[0]
+    costly = page.replace("<h2 id", f"<p>It costs {number} times as much.</p><h2 id", 1)
+    assert article_file.faults_of_costs(costly) == [f"{number} is a number of the table of costs in README.md"]

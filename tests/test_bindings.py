@@ -14,16 +14,17 @@ import tempfile
 from concurrent.futures import ThreadPoolExecutor
 from pathlib import Path
 
-import exports_c
 import pytest
 from calls import blocks, dine, fault_of_build
-from trying import HOME, Answer, answer_of, text_of
+from lib import bindings
+from lib.files import HOME, text_of
+from lib.process import Answer, answer_of
 
 pytestmark = pytest.mark.timeout(900)
 PLANS = ("plans/pair.toml", "plans/ring_of_five.toml", "plans/resigning_site.toml", "tests/cases/values.toml",
          "tests/cases/triangle.toml")
 # How many lists of choices are replayed of each plan.
-LISTS = 2_000
+LISTS = 500
 RT = shutil.which("rt")
 KIT = os.path.dirname(os.path.dirname(os.path.realpath(RT))) if RT else ""
 # Before a command: it runs where the kit cannot be seen.
@@ -39,19 +40,19 @@ MPI = {"OMPI_ALLOW_RUN_AS_ROOT": "1", "OMPI_ALLOW_RUN_AS_ROOT_CONFIRM": "1", "OM
 @pytest.mark.early
 def test_written_files():
     """They are up to date: if not, run tools/bindings --write. The cargo of rustc 1.63 reads no newer lock file."""
-    assert [path for path in exports_c.PARTS if text_of(path) != exports_c.written(path)] == []
-    assert exports_c.faults_of_header() == [] and "\nversion = 3\n" in text_of("bindings/rust/Cargo.lock")
+    assert [path for path in bindings.PARTS if text_of(path) != bindings.written(path)] == []
+    assert bindings.faults_of_header() == [] and "\nversion = 3\n" in text_of("bindings/rust/Cargo.lock")
 
 
 @pytest.mark.early
 def test_module_as_c(tmp_path):
     """It is up to date: if not, run tools/bindings --write. If this wasm2c is not the noted one, the note counts."""
-    noted, here = text_of(exports_c.MADE).split("\n"), exports_c.makers().split("\n")
+    noted, here = text_of(bindings.MADE).split("\n"), bindings.makers().split("\n")
     assert noted[1] == here[1]
     needs("wasm2c")
     if noted[0] == here[0]:
-        exports_c.module_as_c(tmp_path)
-        for path in exports_c.MODULE:
+        bindings.module_as_c(tmp_path)
+        for path in bindings.MODULE:
             # Not compared by assert, which would look for a while for what differs in four megabytes.
             is_same = text_of(tmp_path / os.path.basename(path)) == text_of(path)
             assert is_same, path
@@ -107,6 +108,8 @@ class Place:
 
 
 WAYS = [pytest.param(it, marks=[pytest.mark.slow, pytest.mark.xdist_group(it)]) for it in ("with kit", "without kit")]
+# A test of what does not depend on the library.
+ONCE = pytest.mark.parametrize("place", WAYS[1:], indirect=True)
 
 
 @pytest.fixture(scope="module", params=WAYS)
@@ -149,7 +152,7 @@ def test_names_of_the_library(place):
     needs("nm")
     names = place.output("nm", "-D", "--defined-only", "bindings/lib/libdine.so").split("\n")
     there = {line.split()[-1] for line in names if line}
-    calls = {name for name, _ in exports_c.exports()}
+    calls = {name for name, _ in bindings.exports()}
     assert {it for it in there if not it.startswith("dine_raw_")} == {f"dine_{name}" for name in calls}
     assert there - {f"dine_{name}" for name in calls} <= {f"dine_raw_{name}" for name in calls}
 
@@ -172,6 +175,7 @@ def test_python(place):
     assert " passed" in place.output(*tests, env={"PYTHONPATH": site})
 
 
+@ONCE
 def test_packages(place):
     """What cargo and pip make of the two packages works in an empty folder, where nothing else of the repository is."""
     needs("cargo")
@@ -194,6 +198,7 @@ def test_packages(place):
     assert place.output(*readme, env={"PYTHONPATH": f"{place.folder}/alone/site"}) == ""
 
 
+@ONCE
 def test_lints(place):
     """The crate has no warning of clippy or rustdoc; the types of the Python package and of its examples fit."""
     needs("cargo")

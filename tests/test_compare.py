@@ -1,7 +1,7 @@
 """Tries the four ways beside each other: what the page shows of their runs. What the ways do is tried by
 tests/page/compare.test.mjs."""
 import pytest
-from browsing import RING
+from chromium import RING
 
 ENDS = "#compare .end"
 # The counts of the ring of five, one after the other: Chandy and Misra's are those of the proved rules.

@@ -2,8 +2,8 @@
 nothing scrolls sideways, no control is cut off, and a step does something."""
 import pytest
 from firefox import firefox
+from lib.files import HOME
 from test_article import SIZES
-from trying import HOME
 
 # For each page: what is pressed, and what says something else then.
 PAGES = {"index": ("#step", "#last"), "article": ("#pair button.main", "#pair .said")}

@@ -4,9 +4,9 @@ import time
 import urllib.parse
 
 import pytest
-from browsing import ASKED, RING
-from graphs import graph_of, plan_of
-from trying import text_of
+from chromium import ASKED, RING
+from lib.files import text_of
+from lib.graphs import graph_of, plan_of
 
 STAR, STORY = "plans/star_of_locks.toml", "lessons/dining_without_a_waiter.toml"
 HEIGHT = "one('#picture').clientHeight"
@@ -195,7 +195,7 @@ def test_plan_that_is_refused(page):
     plan = 'version = 1\n\n[[site]]\nname = "a"\n\n[[site]]\nname = "b"\n\n[[edge]]\nends = ["a", "cup"]\n'
     page.write_plan(plan)
     assert page.text("#plan-fault") == (
-        'An end of this edge is not the name of a site. Line 10, "cup": there is "a", "b".')
+        'An end of this edge is no site\'s name. Line 10, "cup": there is "a", "b".')
     assert page.each("#text", "it.value.slice(it.selectionStart, it.selectionEnd)") == ['"cup"']
     page.do("Escape")
     assert page.differs(before) == []

@@ -1,13 +1,15 @@
 """Tries the lessons, the questions, the challenge and the plain forks of the page."""
 import itertools
 import re
+import time
 import tomllib
 
-import catalog
 import pytest
-from browsing import ASKED, RING
 from calls import until
-from trying import paths, text_of
+from chromium import ASKED, RING
+from features import catalog
+from lib.fault import Fault
+from lib.files import paths, text_of
 
 STORY = "lessons/dining_without_a_waiter.toml"
 LESSONS = {it: tomllib.loads(text_of(it))["moment"] for it in paths("lessons/*.toml")}
@@ -140,8 +142,28 @@ def test_way_on_and_home(page):
     assert page.unseen("#next-lesson") == ["#next-lesson"]
     page.do("#leave", "#home")
     assert page.unseen("#begin") == [] and page.count("#picture .site") == 5
+    # The first page has its own address by now: the way back leads from there.
+    assert page.js("location.hash") == ""
     page.js("(history.back(), null)")
-    page.until("one('#front').hidden")
+    page.until("one('#front').hidden && location.hash !== ''")
+
+
+def test_late_address(page):
+    """An address that is made late does not go over that of what is shown by then."""
+    page.look(390, 844, motion="reduce")
+    page.open("lesson=lessons/challenges.toml&moment=3")
+    page.do("PageDown", "PageDown")
+    # What is packed into an address is kept back.
+    late = "new Promise((then) => late.push(() => then(read.call(this))))"
+    page.js("(globalThis.late = [], ((read) => { Response.prototype.arrayBuffer = function () "
+            f"{{ return {late}; }}; }})(Response.prototype.arrayBuffer), null)")
+    page.do("#leave")
+    page.until("late.length")
+    page.do("#home")
+    page.until("location.hash === ''")
+    page.js("(late.forEach((it) => it()), null)")
+    time.sleep(1)
+    assert page.js("location.hash") == "" and page.unseen("#begin") == []
 
 
 def test_ways_of_a_moment(page):
@@ -221,7 +243,7 @@ def test_motion_between_moments(page):
     pytest.param("it is no lesson: ", f"x = {'[' * 5000}\n[[moment]]\ntext = ''\n", id="deep")])
 def test_unfit_lesson(fault, text):
     """A key that has what it can't have is reported with its moment."""
-    with pytest.raises(catalog.Fault, match=f"^{fault}"):
+    with pytest.raises(Fault, match=f"^{fault}"):
         catalog.lesson_of("it", text)
 
 

@@ -4,8 +4,10 @@ import os
 from pathlib import Path
 
 import pytest
-from calls import add_program, blocks
-from trying import HOME, Answer, answer_of
+from calls import blocks
+from lib.crates import add_program
+from lib.files import HOME
+from lib.process import Answer, answer_of
 
 pytestmark = pytest.mark.early
 VENDOR = f"{HOME}/tools/vendor"

@@ -1,9 +1,11 @@
 """Tries what a caller of the library sees, by tests/library_calls.rt.in, which 'rt try' builds without a proof: when a
-watch is told, what is counted and timed meanwhile, what a run that is cancelled prints, how the fault of a run is
-printed, how a value is opened twice, and how a builder refuses what is far too large."""
+watch is told, what is counted and timed meanwhile, what a run that is cancelled prints, which jobs are called to their
+next one, how the fault of a run is printed, how a value is opened twice, and how a builder refuses what is far too
+large."""
 import pytest
-from calls import add_program
-from trying import answer_of, copy_crates, text_of
+from lib.crates import add_program, copy_crates
+from lib.files import text_of
+from lib.process import answer_of
 
 # The program runs once, for all tests.
 pytestmark = [pytest.mark.kit, pytest.mark.early, pytest.mark.slow, pytest.mark.timeout(1200),
@@ -29,14 +31,16 @@ PARTS = {
     "told": THREE_JOBS,
     # The second job fails. The site is not hungry again.
     "resigns": TWO_JOBS,
+    "one job": ONE_JOB,
     "no jobs": "",
     # A watch around the job of a site that the plan does not have.
     "no site": "",
-    # The number of meals that each job reads, while it is not counted itself.
+    # The number of meals that each job reads, while it is not counted itself. Then two threads count a million each.
     "meals": """job 1: 0
 job 2: 1
 job 3: 2
 at the end: 3
+by two threads: 2000000
 """,
     # Reading n of the clock is n * n milliseconds. Three waits take six readings, so 3, 7 and 11 milliseconds. If a
     # reading fails, which is named first, its wait is left out. If that is the first reading of a wait, there is no
@@ -50,8 +54,19 @@ at the end: 3
 6: 2 waits, 10000000 ns, the longest 7000000 ns
 7: 3 waits, 21000000 ns, the longest 11000000 ns
 """,
-    # Job 2 fails, and job 3 sets the flag, after which none is run.
-    "cancelled": """alone begins 1
+    # Each job reads the clock, too: the waits are from reading 1 to 2, from 4 to 5 and from 7 to 8.
+    "waits between jobs that take long": "3 waits, 27000000 ns, the longest 15000000 ns\n",
+    # Of a clock that stands. A wait counts also if the site begins at once.
+    "waits of no time": "3 waits, 0 ns, the longest 0 ns\n",
+    # No watch is told that the site is hungry for the first job of the second run. So that wait is left out, and the
+    # others are from reading 7 to 8 and from 9 to 10.
+    "waits of two runs": """3 waits, 21000000 ns, the longest 11000000 ns
+5 waits, 55000000 ns, the longest 19000000 ns
+""",
+    # Nothing is printed before the run, when the site is hungry for its first job. Job 2 fails, and job 3 sets the
+    # flag, after which none is run.
+    "cancelled": """the run begins
+alone begins 1
 job 1, cancelled: false
 alone ends 1
 alone begins 2
@@ -68,15 +83,44 @@ failure 2: the job failed
 failure 4: cancelled
 failure 5: cancelled
 cancelled: true, true
+set again: true
 """,
     # Job 1 sets the flag. The site resigns when job 2 is refused.
-    "cancelled, resigns": """alone begins 1
+    "cancelled, resigns": """the run begins
+alone begins 1
 job 1, cancelled: false
 alone ends 1
 alone begins 2
 alone fails 2
 failure 2: cancelled
 cancelled: true, true
+set again: true
+""",
+    # Job 2 sets the flag, and fails for a reason of its own, which is not lost.
+    "cancelled, fails": """the run begins
+alone begins 1
+job 1, cancelled: false
+alone ends 1
+alone begins 2
+job 2, cancelled: false
+alone fails 2
+alone begins 3
+alone fails 3
+alone begins 4
+alone fails 4
+alone begins 5
+alone fails 5
+failure 2: the job failed
+failure 3: cancelled
+failure 4: cancelled
+failure 5: cancelled
+cancelled: true, true
+set again: true
+""",
+    # A job around another one is called if that is, also once the flag is set: else the site would wait for ever and
+    # not learn that it is cancelled.
+    "called": """true: watched true, cancellable true, cancelled true
+false: watched false, cancellable false, cancelled false
 """,
     # The words of a fault, and its debug output.
     "fault": "run refused: jobs given 0, wanted 1: JobsDiffer { given: 0, sites: 1 }\n",

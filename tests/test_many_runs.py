@@ -9,9 +9,10 @@ import random
 import re
 
 import pytest
-from calls import add_program
-from graphs import graph_of, plan_of
-from trying import answer_of, copy_crates, text_of
+from lib.crates import add_program, copy_crates
+from lib.files import text_of
+from lib.graphs import graph_of, plan_of
+from lib.process import answer_of
 
 # All runs are done by one process, for all tests.
 pytestmark = [pytest.mark.kit, pytest.mark.slow, pytest.mark.xdist_group("many runs")]

@@ -1,6 +1,4 @@
 """Tries which mutants tools/mutants takes for refused, mostly by checks of a simulated kit, tests/kit/checks.py."""
-import importlib.machinery
-import importlib.util
 import os
 import re
 import shutil
@@ -9,7 +7,8 @@ import types
 from pathlib import Path
 
 import pytest
-from trying import HOME
+from lib.files import HOME
+from lib.functions import Function, functions
 
 RT = shutil.which("rt")
 pytestmark = [pytest.mark.early, pytest.mark.slow, pytest.mark.kit]
@@ -157,9 +156,6 @@ def test_others_have_a_check_of_their_own(place, old, new, only):
 
 def test_names_of_functions(tmp_path):
     """Those that rattle gives them."""
-    loader = importlib.machinery.SourceFileLoader("mutants", f"{HOME}/tools/mutants")
-    mutants = importlib.util.module_from_spec(importlib.util.spec_from_loader("mutants", loader))
-    loader.exec_module(mutants)
     (tmp_path / "src").mkdir()
     (tmp_path / "src/plans.rt").write_text("pub struct Plan {\n    sites: u32,\n}\n")
     crate = types.SimpleNamespace(name="low", folder=str(tmp_path))
@@ -191,11 +187,11 @@ fn alone() -> u32 {
     3
 }
 """
-    lines = zip(text.split("\n"), mutants.functions(crate, "src/dots/edges.rt", text))
+    lines = zip(text.split("\n"), functions(crate, "src/dots/edges.rt", text))
     inside = {line.strip(): function.path() for line, (function, is_inside) in lines if is_inside}
     assert inside == {"Plan { sites }": "plans::Plan::of", "Fault": "dots::edges::FaultFromRefRunFaultPart::from",
                       "3": "dots::edges::alone"}
-    of = mutants.Function(("low", "dots"), "Plan", "of")
+    of = Function(("low", "dots"), "Plan", "of")
     assert of.is_named("low::dots::Plan::of") and of.is_named("low::dots::fn::Plan::of::map")
     assert not any(of.is_named(it) for it in ("low::Plan::of", "low::dots::PlanDisplay::of", "low::dots::Plan::offer"))
 

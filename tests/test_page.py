@@ -7,10 +7,11 @@ import tomllib
 import urllib.parse
 
 import pytest
-from browsing import ASKED, RING
 from calls import dine
-from graphs import graph_of, plan_of
-from trying import Answer, text_of
+from chromium import ASKED, RING
+from lib.files import text_of
+from lib.graphs import graph_of, plan_of
+from lib.process import Answer
 
 pytestmark = pytest.mark.built("dine_cli", "dine_trace")
 # The plans that are stepped to their end, and after how many random choices.

@@ -2,10 +2,11 @@
 from contextlib import contextmanager
 
 import pytest
-from browsing import ASKED, FILE, RING, opened, started
 from calls import HOW
-from graphs import graph_of, plan_of
-from trying import HOME, answer_of
+from chromium import ASKED, FILE, RING, opened, started
+from lib.files import HOME
+from lib.graphs import graph_of, plan_of
+from lib.process import answer_of
 
 EIGHT = plan_of([2] * 8, graph_of("ring:8")[1]).decode()
 PAIR = "plans/pair.toml"

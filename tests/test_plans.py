@@ -5,9 +5,10 @@ import re
 from pathlib import Path
 
 import pytest
-from at_random import plan_of
 from calls import answer_with, dine
-from trying import HOME, Answer, paths
+from lib.files import HOME, paths
+from lib.process import Answer
+from random_plans import plan_of
 
 pytestmark = pytest.mark.built("dine_cli")
 # A line of a plan's head: a command, and a line that it prints.

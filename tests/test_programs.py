@@ -11,10 +11,12 @@ import sys
 import tomllib
 from pathlib import Path
 
-import fresh
 import pytest
-from calls import HAS_KIT, answer_with, called, fault_of_build
-from trying import HOME, Answer, answer_of, crates, paths, text_of, with_those_below
+from calls import HAS_KIT, answer_with, called, copy_repository, fault_of_build
+from lib import stamps
+from lib.crates import crates, with_those_below
+from lib.files import HOME, paths, text_of
+from lib.process import Answer, answer_of
 
 RAN = 'echo committed "$@"; cat'
 MADE = Path("programs/made")
@@ -35,9 +37,8 @@ class Place:
 
     def __init__(self, home):
         self.home = home
-        for it in ("dine", "tools/made", "tools/seen", "tools/build", "tools/fresh.py", "tools/trying.py",
-                   "tools/unproved.py", "rattle-logic", "CHANGELOG.md"):
-            (home / it).parent.mkdir(parents=True, exist_ok=True)
+        shutil.copytree(f"{HOME}/tools/lib", home / "tools/lib", ignore=shutil.ignore_patterns("__pycache__"))
+        for it in ("dine", "tools/made", "tools/build", "rattle-logic", "CHANGELOG.md"):
             shutil.copy(f"{HOME}/{it}", home / it)
         self.write("crates.txt", "# crates\nlow:\nother:\ndine_cli may_wait=1: low\n")
         for crate in ("low", "other", "dine_cli"):
@@ -187,7 +188,7 @@ def test_other_machine(place, before, said):
 
 
 @pytest.mark.early
-@pytest.mark.parametrize("crate", fresh.COMMITTED)
+@pytest.mark.parametrize("crate", stamps.COMMITTED)
 def test_sum_of_the_sources(crate):
     """The sum of tools/made is the one that its first lines say."""
     place = Place.__new__(Place)
@@ -211,13 +212,12 @@ def clone(tmp_path_factory):
     """A copy of the repository, in which nothing is built, with programs/ as tools/programs makes it now. Where there
     is no kit, with programs/ as it is."""
     folder = tmp_path_factory.mktemp("clone") / "dine"
-    for crate in fresh.COMMITTED:
+    for crate in stamps.COMMITTED:
         if HAS_KIT:
             assert fault_of_build(crate) == ""
         else:
             called(crate)
-    shutil.copytree(HOME, folder, ignore=shutil.ignore_patterns(
-        ".git", "out", "target", "lib", "__pycache__", ".pytest_cache"))
+    copy_repository(folder)
     if HAS_KIT:
         made = answer_of(["--write", f"{folder}/programs"], f"{HOME}/tools/programs", None)
         assert (made.status, made.error) == (0, "")
@@ -230,7 +230,7 @@ def slow(test):
 
 
 def bytes_of(folder):
-    return {it: Path(folder, it).read_bytes() for it in (*fresh.COMMITTED.values(), "made")}
+    return {it: Path(folder, it).read_bytes() for it in (*stamps.COMMITTED.values(), "made")}
 
 
 @pytest.mark.kit
@@ -250,7 +250,7 @@ def test_same_bytes(clone, tmp_path):
 def workshop(clone, tmp_path):
     """A copy of the clone in which the three crates are built."""
     shutil.copytree(clone, tmp_path / "dine")
-    for crate, name in fresh.COMMITTED.items():
+    for crate, name in stamps.COMMITTED.items():
         out = tmp_path / "dine/crates" / crate / "out"
         out.mkdir()
         of = [f"lib{crate}.a", f"lib{crate}.a.made"] if name.endswith(".a") else [crate, f"{crate}.o", f"{crate}.made"]

@@ -8,7 +8,9 @@ from pathlib import Path
 
 import calls
 import pytest
-from trying import HOME, Answer, answer_of, program_of, text_of
+from lib.crates import program_of
+from lib.files import HOME, text_of
+from lib.process import Answer, answer_of
 
 pytestmark = [pytest.mark.built("dine_refusals", "dine_cli"), pytest.mark.kit, pytest.mark.slow,
               pytest.mark.timeout(900)]

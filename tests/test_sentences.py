@@ -7,9 +7,10 @@ import shutil
 import urllib.parse
 
 import pytest
-from browsing import LOOKS
-from graphs import graph_of
-from trying import HOME, answer_of, text_of
+from chromium import LOOKS
+from lib.files import HOME, text_of
+from lib.graphs import graph_of
+from lib.process import answer_of
 
 READING = LOOKS + text_of("tests/page/reading.js")
 # How many states are read in all, how many of one run at most, and how many events lie between two.

@@ -5,7 +5,6 @@ import glob
 import json
 import os
 import re
-import shutil
 import signal
 import socket
 import threading
@@ -14,13 +13,13 @@ import tomllib
 from pathlib import Path
 
 import calls
-import catalog
-import exports
 import pytest
-import server
-from calls import check_whole_run, shown, state_after, until
-from graphs import graph_of, plan_of
-from trying import HOME, Answer, answer_of, text_of
+from calls import check_whole_run, copy_repository, shown, state_after, until
+from features import catalog, server
+from lib import page_file
+from lib.files import HOME, text_of
+from lib.graphs import graph_of, plan_of
+from lib.process import Answer, answer_of
 
 pytestmark = pytest.mark.built("dine_cli", "dine_trace")
 USAGE = "usage: show [-h] [--port N] [--unproved] [--export FILE] [--choices LIST] [PLAN]\n"
@@ -122,7 +121,7 @@ def test_page_is_made_anew(here, tmp_path, monkeypatch):
     for title in ("One", "Two"):
         path.write_text(f'title = "{title}"\n[[moment]]\nplan = "plans/pair.toml"\n', "utf-8")
         status, text, head = asked(here.server_port, GET)
-        assert status == 200 and f'"title":"{title}"' in exports.unpacked(text)
+        assert status == 200 and f'"title":"{title}"' in page_file.unpacked(text)
     assert all(it in head for it in ("frame-ancestors 'none'", "nosniff", "no-store", "text/html; charset=utf-8"))
     path.write_text("[[moment]]\n", "utf-8")
     assert asked(here.server_port, GET)[:2] == (500, f"{path}: moment 1: it has not one of plan and text\n")
@@ -159,7 +158,8 @@ def programs_of(process):
 @pytest.mark.parametrize("end", [signal.SIGINT, signal.SIGTERM, signal.SIGHUP])
 def test_end_by_a_signal(end):
     """The server ends by Ctrl-C and the like, with the program that it has begun."""
-    with shown(*how()) as it, sent(it.port, run_of(SLOW)):
+    # One that is started by nohup, say, is not to end by the signal, and hands this on to what it starts.
+    with shown(*how(), preexec_fn=lambda: signal.signal(end, signal.SIG_DFL)) as it, sent(it.port, run_of(SLOW)):
         begun = until(lambda: programs_of(it.pid), 60)
         it.send_signal(end)
         assert begun and it.wait(20) == -end
@@ -177,8 +177,7 @@ def test_program_that_takes_too_long(here, monkeypatch):
 
 def test_clean_clone(tmp_path, capfd):
     """Where no program is there and no rt, show begins at once, and says that it can't build the program."""
-    ignored = shutil.ignore_patterns(".git", "out", "programs", "target", "lib", "__pycache__")
-    shutil.copytree(HOME, f"{tmp_path}/clone", ignore=ignored)
+    copy_repository(f"{tmp_path}/clone", "programs")
     path, times = ":".join(it for it in os.environ["PATH"].split(":") if not os.path.exists(f"{it}/rt")), []
     for _ in range(3):
         begun = time.monotonic()
@@ -198,7 +197,7 @@ def test_clean_clone(tmp_path, capfd):
 def test_page_in_one_file():
     """docs/index.html is the page as it is now, in one file that is not large and loads nothing; its runs are whole."""
     text, offered = text_of("docs/index.html"), catalog.offer(None)
-    is_current = exports.unpacked(text) == exports.unpacked(exports.page_of(offered))
+    is_current = page_file.unpacked(text) == page_file.unpacked(page_file.page_of(offered))
     assert is_current, "make it anew by ./show --export docs/index.html"
     assert len(text) < 600_000
     assert not re.search(r'<link rel="stylesheet"|<script[^>]*src=|^import |^export |connect-src', text, re.M)

@@ -1,19 +1,25 @@
 """Tries what needs no build: the planted bugs and the mutants are changes of the sources as they are now, the models of
-waking name functions that are there, the crates are laid out, flake8, shellcheck and tidy find no fault, and what needs
-no browser of the modules of page/ is right, as `node --test tests/page` says."""
+waking name functions that are there, the lists that tools/words writes are those of the crates, the crates are laid
+out, flake8, shellcheck and tidy find no fault, and what needs no browser of the modules of page/ is right, as `node
+--test tests/page` says."""
 import os
+import re
 import shutil
 from pathlib import Path
 
 import pytest
-from planted import BUGS, MANNERS, applied, mutant
-from trying import HOME, Answer, answer_of, copy_crates, crates, paths, text_of
+from lib.bugs import BUGS, MANNERS
+from lib.crates import copy_crates, crates
+from lib.files import HOME, paths, text_of
+from lib.mutants import applied, mutant
+from lib.process import Answer, answer_of
 
 pytestmark = pytest.mark.early
 # What tidy reports although HTML has it.
 KNOWN = ('<form> attribute "method" has invalid value "dialog"', '<textarea> proprietary attribute "autocomplete"')
 FILES = [it for it in (".ci/run", "dine", "show", "verify", *paths("bindings/build"), *paths("tests/kit/*"),
-                       *paths("tools/*"), *paths("bench/*"), *paths("tests/*")) if os.path.isfile(f"{HOME}/{it}")]
+                       *paths("tools/**"), *paths("features/*"), *paths("bench/*"), *paths("tests/*"))
+         if os.path.isfile(f"{HOME}/{it}")]
 FIRST = {it: Path(HOME, it).read_bytes().partition(b"\n")[0] for it in FILES}
 PYTHON = [it for it in FILES if it.endswith(".py") or FIRST[it] == b"#!/usr/bin/env python3"]
 SHELL = [it for it in FILES if FIRST[it] in (b"#!/usr/bin/env bash", b"#!/bin/sh")]
@@ -30,6 +36,27 @@ def test_mutant_changes_the_sources(path):
     error, changes = mutant(text_of(path))
     applied(changes, f"{HOME}/{os.path.dirname(os.path.dirname(path))}")
     assert bool(error) == ("/misuse/" in path), "a text of the error belongs to misuse/"
+
+
+def test_what_is_unsafe_is_told():
+    """docs/BELIEVE.md leads to each file of the crates that has something unsafe beside the marks of exports."""
+    told = text_of("docs/BELIEVE.md")
+    mark = re.compile(r"^ *[^/\n]*\bunsafe (?:impl|fn|\{)", re.M)
+    found = [it for it in paths("crates/*/src/**/*.rt") if mark.search(text_of(it))]
+    assert found and [it for it in found if f"(../{it})" not in told] == []
+
+
+def test_borders():
+    """What two of tools/, tests/, bench/ and features/ need is in tools/lib. Else only features/ is imported."""
+    homes = {Path(it).stem: os.path.dirname(it) for it in paths("tests/*.py") + paths("bench/*.py")}
+    homes |= {"lib": "tools/lib", "features": "features"}
+    strange = []
+    for path in PYTHON:
+        own = os.path.dirname(path)
+        may = {own, "tools/lib", "features"} if own not in ("bench", "tools/lib") else {own, "tools/lib"}
+        names = re.findall(r"^ *(?:from|import) (\w+)", text_of(path), re.M)
+        strange += [f"{path}: {it}" for it in names if homes.get(it, own) not in may]
+    assert strange == []
 
 
 def ran(tool, *words, at=HOME):
@@ -66,8 +93,8 @@ def test_layout_of_the_crates(tmp_path):
     assert changed == [], "run rt fmt in the folder of the crate"
 
 
-@pytest.mark.parametrize("words", [[f"{HOME}/tools/model", "--sources"],
+@pytest.mark.parametrize("words", [[f"{HOME}/tools/model", "--sources"], [f"{HOME}/tools/words"],
                                    *(["node", "--test", it] for it in paths("tests/page/*.test.mjs"))], ids=" ".join)
-def test_models_and_modules(words):
+def test_models_lists_and_modules(words):
     status, output, error = ran(*words)
     assert status == 0, output + error

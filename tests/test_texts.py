@@ -5,7 +5,8 @@ from itertools import combinations, cycle, islice
 
 import pytest
 from calls import REFUSED, answer_with, dine, stored_texts
-from trying import Answer, text_of
+from lib.files import text_of
+from lib.process import Answer
 
 pytestmark = pytest.mark.built("dine_cli")
 

@@ -6,7 +6,9 @@ import shlex
 
 import pytest
 from calls import check_replay, check_whole_run, dine, lists, printed, state_after, trace
-from trying import Answer, paths, text_of
+from lib.files import paths, text_of
+from lib.graphs import plan_of
+from lib.process import Answer
 
 pytestmark = pytest.mark.built("dine_cli", "dine_trace")
 USAGE = "[[--json | --events | --states PLACES] [LIST] | --run [--links channel|ring]] < PLAN"
@@ -93,6 +95,26 @@ def test_each_failed_meal():
     after_2, after_3 = ends.index((1, 2)), ends.index((1, 3))
     wanted = [[[], [2, 3] if n >= after_3 else [2] if n >= after_2 else []] for n in range(len(states))]
     assert failed == wanted and len(states) - 1 > after_3 > after_2 > 1
+
+
+def test_large_values():
+    """An edge has the value of its log, also one that is larger than a plan may begin with, and each edge its own."""
+    sites = "".join(f'[[site]]\nname = "{it}"\njobs = [{{ name = "x", add = 1000000 }}]\n' for it in "abc")
+    edges = "".join(f"[[edge]]\nends = {ends}\nvalue = {value}\n" for ends, value in (
+        ('["a", "b"]', 1000000), ('["b", "c"]', 7)))
+    _, states = along(f"version = 2\n{sites}{edges}", [0] * 60)
+    values = [[edge["value"] for edge in it["edges"]] for it in states]
+    assert values == [[int(line.rpartition(" = ")[2]) for line in it["logs"]] for it in states]
+    assert (values[0], values[-1]) == ([1000000, 7], [3000000, 2000007])
+
+
+def test_all_enabled_events():
+    """A state has all events that are enabled, of however many sites and edges: a choice behind them names none."""
+    edges = [(it, (it + near) % 64) for it in range(64) for near in range(1, 9)]
+    text = plan_of([0] * 64, edges).decode()
+    enabled = state_after(text, [])["enabled"]
+    assert [it["number"] for it in enabled] == [*range(2 * len(edges))]
+    assert [state_after(text, [it])["last"] for it in (len(enabled) - 1, len(enabled))] == [enabled[-1], None]
 
 
 def test_long_list():

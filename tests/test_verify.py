@@ -4,7 +4,8 @@ import re
 import shutil
 
 import pytest
-from trying import HOME, answer_of
+from lib.files import HOME
+from lib.process import answer_of
 
 pytestmark = pytest.mark.early
 TESTS = "plans: 3 passed, 0 failed, 0 skipped, 2 seconds\n3 passed, 0 failed"

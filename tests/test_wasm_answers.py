@@ -1,5 +1,6 @@
-"""Compares what page/dine.wasm answers with what dine_trace prints: 20,000 states along schedules of 500 random plans,
-the same by page/worker.js in any order, the events of each schedule, and 2,000 texts of which most are refused.
+"""Compares what page/dine.wasm answers with what dine_trace prints: by a handle 20,000 states along schedules of 500
+random plans, the same by page/worker.js in any order, the events of each schedule, and 2,000 texts of which most are
+refused.
 
 The plans are those of tests/test_plans.py. A schedule has up to 120 random choices, some of them with no event. The
 texts are plans with a few bytes changed, and the texts of tests/refused/. An answer has to be what dine_trace prints,
@@ -12,14 +13,16 @@ import shutil
 from pathlib import Path
 
 import pytest
-from at_random import plan_of
 from calls import trace
-from trying import HOME, answer_of, first_difference, paths
+from lib.checks import first_difference
+from lib.files import HOME, paths
+from lib.process import answer_of
+from random_plans import plan_of
 
 HAS_NODE = pytest.mark.skipif(not shutil.which("node"), reason="node is not installed")
 pytestmark = [pytest.mark.built("dine_trace"), pytest.mark.slow, HAS_NODE]
 PLACES = 40
-CALLS = ("dine_states", "dine_events", "dine_check")
+CALLS = ("dine_open", "dine_now", "dine_events")
 
 
 def refusal_of(error):
@@ -38,8 +41,8 @@ def wanted_of(plan, choices, places):
         return dict.fromkeys(CALLS, refusal_of(events.error))
     assert (states.status, events.status) == (0, 0), states.error + events.error
     lines = dict(zip(rising, states.output.splitlines()))
-    return {"dine_check": "{}", "dine_events": events.output.rstrip("\n"),
-            "dine_states": f"[{','.join(lines[it] for it in sorted(places))}]",
+    return {"dine_open": "{}", "dine_events": events.output.rstrip("\n"),
+            "dine_now": f"[{','.join(lines[it] for it in sorted(places))}]",
             "worker": f"[{','.join(lines[it] for it in places)}]"}
 
 

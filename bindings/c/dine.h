@@ -66,9 +66,67 @@ enum {
     DINE_LETTER_UNLAWFUL = -13, /* the other end cannot have done that with the fork */
     DINE_LETTER_EDGE = -14,     /* the letter is of an edge that the site does not have */
     DINE_OTHER_RUN = -15,       /* the letter is of another run */
-    DINE_BREACH = -20           /* -21 to -26: the rules do not allow the letter now: after Close, Request out of turn,
-                                   Fork out of turn, strange Fork, Done out of turn, closed early */
-    /* -101 to -120: the text is no plan, or the builder would have none; dine_plan_refusal writes the cause of a text */
+    /* The rules do not allow the letter now. Breach n of docs/FORMAT.md is DINE_BREACH - n: */
+    DINE_BREACH = -20,
+    /* words breaches, by tools/words */
+    /* A letter after Close. */
+    DINE_BREACH_AFTER_CLOSE = -21,
+    /* A Request while the fork is away or the token is here, or after Done, or of another edge, or from a site that ate
+     * all its meals. */
+    DINE_BREACH_REQUEST_OUT_OF_TURN = -22,
+    /* A Fork, although the fork or the token is here. */
+    DINE_BREACH_FORK_OUT_OF_TURN = -23,
+    /* A Fork that is not the fork of this edge, or whose log is not as it has to be. */
+    DINE_BREACH_STRANGE_FORK = -24,
+    /* A second Done; or, while the fork is here, a Done of a site that does not resign, before the log has all its
+     * meals. */
+    DINE_BREACH_DONE_OUT_OF_TURN = -25,
+    /* A Close before both sites said Done. */
+    DINE_BREACH_CLOSED_EARLY = -26,
+    /* end */
+    /* The text is no plan, or the builder would have none; dine_plan_refusal writes the cause of a text. Cause n of
+     * docs/FORMAT.md is DINE_CAUSE - n: */
+    DINE_CAUSE = -100,
+    /* words causes, by tools/words */
+    /* The text is no TOML, or no UTF-8. */
+    DINE_CAUSE_NOT_TOML = -101,
+    /* The plan has no `version`, or one that is not the whole number 1 or 2. */
+    DINE_CAUSE_VERSION = -102,
+    /* A table has a key that plans do not have there, or not in this version. */
+    DINE_CAUSE_UNKNOWN_KEY = -103,
+    /* A site or a job has no `name`, or an edge no `ends`. */
+    DINE_CAUSE_MISSING_KEY = -104,
+    /* A value is of the wrong kind, such as a text for a number, or is a number below 0. */
+    DINE_CAUSE_WRONG_KIND = -105,
+    /* The name of this site, or of one of its jobs, is not 1 to 32 ASCII letters, digits, `_` or `-`. */
+    DINE_CAUSE_BAD_NAME = -106,
+    /* An earlier site has the name of this site. */
+    DINE_CAUSE_SITE_TWICE = -107,
+    /* There is no site. */
+    DINE_CAUSE_NO_SITE = -108,
+    /* There are more than 64 sites. */
+    DINE_CAUSE_TOO_MANY_SITES = -109,
+    /* This site has more than 1,000 jobs. */
+    DINE_CAUSE_TOO_MANY_JOBS = -110,
+    /* A job of this site has `turns` above 1,000,000. */
+    DINE_CAUSE_TURNS_TOO_LARGE = -111,
+    /* An end of this edge is no site's name. */
+    DINE_CAUSE_UNKNOWN_END = -112,
+    /* Both ends of this edge are one site. */
+    DINE_CAUSE_LOOP = -113,
+    /* An earlier edge joins the two sites of this one. */
+    DINE_CAUSE_EDGE_TWICE = -114,
+    /* There are more than 512 edges. */
+    DINE_CAUSE_TOO_MANY_EDGES = -115,
+    /* A job of this site has both `add` and `set`. */
+    DINE_CAUSE_TWO_ACTS = -117,
+    /* A job of this site has `add` or `set` above 1,000,000. */
+    DINE_CAUSE_ACT_TOO_LARGE = -118,
+    /* The value of this edge is above 1,000,000. */
+    DINE_CAUSE_VALUE_TOO_LARGE = -119,
+    /* `on_fault` of this site is neither `go` nor `resign`. */
+    DINE_CAUSE_UNKNOWN_POLICY = -120,
+    /* end */
 };
 /* No letter has more bytes. The first eight are the number of its run, the least byte first; one for its kind and four
  * for its edge follow. */
@@ -79,7 +137,26 @@ static inline uint32_t dine_letter_edge(const uint8_t *letter) {
 }
 
 typedef enum dine_kind {
-    DINE_TAKE, DINE_GIVE, DINE_END, DINE_BEGIN, DINE_QUIT, DINE_HUNGRY, DINE_ASK, DINE_DONE, DINE_CLOSE
+    /* words kinds, by tools/words */
+    /* Takes the next letter in the link to the site. */
+    DINE_TAKE = 0,
+    /* Sends a dirty fork that the neighbour asked for: the release rule. */
+    DINE_GIVE = 1,
+    /* Ends a meal. */
+    DINE_END = 2,
+    /* Begins a meal. */
+    DINE_BEGIN = 3,
+    /* Drops the jobs that it has left, after a meal that failed. */
+    DINE_QUIT = 4,
+    /* Grows hungry. */
+    DINE_HUNGRY = 5,
+    /* Sends the token to ask for the fork: the request rule. */
+    DINE_ASK = 6,
+    /* Says that it will ask no more. */
+    DINE_DONE = 7,
+    /* Says that it will send nothing more. */
+    DINE_CLOSE = 8,
+    /* end */
 } dine_kind;
 typedef struct dine_event { uint32_t site, kind, place; } dine_event;
 typedef struct dine_ends { uint32_t lower, higher; } dine_ends;
@@ -106,27 +183,25 @@ int64_t dine_plan_name(dine_handle *plan, uint32_t site, uint8_t *out, size_t ou
 int64_t dine_plan_ends(dine_handle *plan, uint32_t edge, dine_ends *out);
 
 /* A builder: a plan by calls, with no text. Sites and edges get numbers from 0, in the order in which they are added.
- * The jobs of a site have numbers k from 1, which are their names. What no plan can have is refused at once, with the
- * number of its cause in docs/FORMAT.md below -100, and then the builder is as it was. */
+ * The jobs of a site have numbers k from 1, which are their names. What no plan can have is refused at once: a call
+ * returns the first that holds of the DINE_CAUSE_ statuses that its comment names, and the builder is as it was. */
 int64_t dine_plan_builder_open(dine_handle *builder);
-/* Returns the number of the site. Refuses: -106 the name is not 1 to 32 letters of ASCII, digits, _ or -; -107 a site
- * has it; -109 there are 64 sites; -110 it has more than 1,000 jobs. The first of these is the status. */
+/* Returns the number of the site. Refuses: BAD_NAME, SITE_TWICE, TOO_MANY_SITES, TOO_MANY_JOBS. */
 int64_t dine_plan_builder_site(dine_handle *builder, const uint8_t *name, size_t name_len, uint32_t jobs);
-/* Returns the number of the edge, whose value is 0. Refuses: -112 a or b is no site; -113 both are one; -114 they have
- * an edge; -115 there are 512 edges. The first of these is the status. */
+/* Returns the number of the edge, whose value is 0. Refuses: UNKNOWN_END, LOOP, EDGE_TWICE, TOO_MANY_EDGES. */
 int64_t dine_plan_builder_edge(dine_handle *builder, uint32_t a, uint32_t b);
-/* The value before the first meal. Refuses: -119 it is above 1,000,000; DINE_NO_SUCH. */
+/* The value before the first meal. Refuses: VALUE_TOO_LARGE; DINE_NO_SUCH. */
 int64_t dine_plan_builder_value(dine_handle *builder, uint32_t edge, uint32_t value);
 /* The site drops the jobs that it has left after one failed. */
 int64_t dine_plan_builder_resign(dine_handle *builder, uint32_t site);
-/* Refuses: -111 there are more than 1,000,000 turns; DINE_NO_SUCH. */
+/* Refuses: TURNS_TOO_LARGE; DINE_NO_SUCH. */
 int64_t dine_plan_builder_turns(dine_handle *builder, uint32_t site, uint32_t k, uint32_t turns);
 int64_t dine_plan_builder_fails(dine_handle *builder, uint32_t site, uint32_t k);
-/* The meal of the job sets the value of each edge of the site to the amount, or adds the amount. Refuses: -118 the
- * amount is above 1,000,000; DINE_NO_SUCH. */
+/* The meal of the job sets the value of each edge of the site to the amount, or adds the amount. Refuses:
+ * ACT_TOO_LARGE; DINE_NO_SUCH. */
 int64_t dine_plan_builder_act(dine_handle *builder, uint32_t site, uint32_t k, bool sets, uint32_t amount);
 /* Makes the plan, as dine_plan_open does of a text of version 2. The builder stays as it is, and may go on. Refuses:
- * -108 there is no site. */
+ * NO_SITE. */
 int64_t dine_plan_builder_finish(dine_handle *builder, dine_handle *plan);
 
 /* A world: all sites of a plan in one thread. */

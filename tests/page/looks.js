@@ -1,4 +1,4 @@
-// What the tests look at in a page. tests/browsing.py puts it before each script that runs there.
+// What the tests look at in a page. tests/chromium.py puts it before each script that runs there.
 
 const one = (where) => document.querySelector(where);
 const all = (where) => [...document.querySelectorAll(where)];

@@ -124,12 +124,12 @@ test("what is kept is had back, and a browser may keep nothing", () => {
 
 test("a refusal is a sentence, and names its line and what is to be mended there", () => {
   const text = 'version = 1\n\n[[site]]\nname = "a"\n\n[[ edge ]]\nends = ["a", "cup"]\n\n[[edge]]\n';
-  const end = "An end of this edge is not the name of a site.";
+  const end = "An end of this edge is no site's name.";
   const at = text.indexOf('"cup"');
   const refusals = {
     "dine: plan refused: 12 UnknownEnd at edge 0": [`${end} Line 7, "cup": there is "a".`, { from: at, to: at + 5 }],
     "plan refused: 12 UnknownEnd at edge 2": [`${end} It is edge 2, counted from 0.`, null],
-    "plan refused: 8 NoSite": ["The plan has no site.", null],
+    "plan refused: 8 NoSite": ["There is no site.", null],
     "out of memory": ["out of memory", null],
     "plan refused: 99 Cups": ["plan refused: 99 Cups", null],
   };
@@ -139,7 +139,7 @@ test("a refusal is a sentence, and names its line and what is to be mended there
   }
 });
 
-// The plans that are refused, with the place that tools/explain finds in each, by its own reading.
+// The plans that are refused, with the place that features/explain.py finds in each, by its own reading.
 const EXPLAINED = new Map(textOf("tests/explained.txt").split(/^# /m).slice(1).map((it) => {
   const [name, ...lines] = it.split("\n");
   return [name, /:(\d+):(\d+): /.exec(lines[0])?.slice(1).map(Number) ?? null];

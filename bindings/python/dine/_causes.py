@@ -1,21 +1,22 @@
-"""Written by tools/bindings from PlanFault: why a text is no plan."""
+"""Why a text is no plan: the causes of PlanFault."""
 from enum import IntEnum
 
 
 class Cause(IntEnum):
     """Why a text is no plan. The number of a cause is that of docs/FORMAT.md."""
 
-    #: The text is no TOML.
+    # words causes, by tools/words
+    #: The text is no TOML, or no UTF-8.
     NotToml = 1
-    #: `version` is absent or is not the whole number 1 or 2.
+    #: The plan has no `version`, or one that is not the whole number 1 or 2.
     Version = 2
-    #: The document, a site, a job or an edge has a key that its version of the format does not name for it.
+    #: A table has a key that plans do not have there, or not in this version.
     UnknownKey = 3
     #: A site or a job has no `name`, or an edge no `ends`.
     MissingKey = 4
-    #: A value is of another kind than the format names for its key.
+    #: A value is of the wrong kind, such as a text for a number, or is a number below 0.
     WrongKind = 5
-    #: The name of this site, or of one of its jobs, is no name.
+    #: The name of this site, or of one of its jobs, is not 1 to 32 ASCII letters, digits, `_` or `-`.
     BadName = 6
     #: An earlier site has the name of this site.
     SiteTwice = 7
@@ -35,11 +36,12 @@ class Cause(IntEnum):
     EdgeTwice = 14
     #: There are more than 512 edges.
     TooManyEdges = 15
-    #: A job of this site both adds and sets.
+    #: A job of this site has both `add` and `set`.
     TwoActs = 17
-    #: A job of this site adds or sets more than 1,000,000.
+    #: A job of this site has `add` or `set` above 1,000,000.
     ActTooLarge = 18
     #: The value of this edge is above 1,000,000.
     ValueTooLarge = 19
     #: `on_fault` of this site is neither `go` nor `resign`.
     UnknownPolicy = 20
+    # end

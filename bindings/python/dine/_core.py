@@ -12,7 +12,7 @@ import threading
 from ctypes import byref, c_uint8, c_uint32
 from enum import IntEnum
 from operator import index
-from typing import Any, Hashable, Iterable, NamedTuple, Sequence
+from typing import Any, Hashable, Iterable, NamedTuple, Sequence, TypeVar
 
 from . import _calls, _picture
 from ._causes import Cause
@@ -72,12 +72,22 @@ class Status(IntEnum):
     LETTER_UNLAWFUL = -13
     LETTER_EDGE = -14
     OTHER_RUN = -15
+    # words breaches, by tools/words
+    #: A letter after Close.
     AFTER_CLOSE = -21
+    #: A Request while the fork is away or the token is here, or after Done, or of another edge, or from a site that ate
+    #: all its meals.
     REQUEST_OUT_OF_TURN = -22
+    #: A Fork, although the fork or the token is here.
     FORK_OUT_OF_TURN = -23
+    #: A Fork that is not the fork of this edge, or whose log is not as it has to be.
     STRANGE_FORK = -24
+    #: A second Done; or, while the fork is here, a Done of a site that does not resign, before the log has all its
+    #: meals.
     DONE_OUT_OF_TURN = -25
+    #: A Close before both sites said Done.
     CLOSED_EARLY = -26
+    # end
 
 
 _WORDS: dict[int, str] = {
@@ -96,12 +106,20 @@ _WORDS: dict[int, str] = {
     Status.LETTER_UNLAWFUL: "the neighbour cannot have done that with the fork",
     Status.LETTER_EDGE: "the letter is of an edge that the site does not have",
     Status.OTHER_RUN: "the letter is of another run",
+    # words breaches said, by tools/words
     Status.AFTER_CLOSE: "a letter after Close",
-    Status.REQUEST_OUT_OF_TURN: "a Request out of turn",
-    Status.FORK_OUT_OF_TURN: "a Fork out of turn",
-    Status.STRANGE_FORK: "a strange Fork",
-    Status.DONE_OUT_OF_TURN: "a Done out of turn",
+    Status.REQUEST_OUT_OF_TURN: (
+        "a Request while the fork is away or the token is here, or after Done, or of another edge, or from a "
+        "site that ate all its meals"
+    ),
+    Status.FORK_OUT_OF_TURN: "a Fork, although the fork or the token is here",
+    Status.STRANGE_FORK: "a Fork that is not the fork of this edge, or whose log is not as it has to be",
+    Status.DONE_OUT_OF_TURN: (
+        "a second Done; or, while the fork is here, a Done of a site that does not resign, before the log has"
+        " all its meals"
+    ),
     Status.CLOSED_EARLY: "a Close before both sites said Done",
+    # end
 }
 
 
@@ -135,15 +153,26 @@ def _answer(status: int) -> int:
 class Kind(IntEnum):
     """What a site does in an event."""
 
+    # words kinds, by tools/words
+    #: Takes the next letter in the link to the site.
     TAKE = 0
+    #: Sends a dirty fork that the neighbour asked for: the release rule.
     GIVE = 1
+    #: Ends a meal.
     END = 2
+    #: Begins a meal.
     BEGIN = 3
+    #: Drops the jobs that it has left, after a meal that failed.
     QUIT = 4
+    #: Grows hungry.
     HUNGRY = 5
+    #: Sends the token to ask for the fork: the request rule.
     ASK = 6
+    #: Says that it will ask no more.
     DONE = 7
+    #: Says that it will send nothing more.
     CLOSE = 8
+    # end
 
 
 class Phase(IntEnum):
@@ -195,6 +224,9 @@ class Place(NamedTuple):
     is_dirty: bool
 
 
+_Own = TypeVar("_Own", bound="_Owner")
+
+
 class _Owner:
     """A handle with its lock, closed by ``close``, by ``with``, or when it is collected."""
 
@@ -217,7 +249,7 @@ class _Owner:
         with self._lock:
             _LIB.dine_close(byref(self._handle))
 
-    def __enter__(self) -> Any:
+    def __enter__(self: _Own) -> _Own:
         return self
 
     def __exit__(self, *_: object) -> None:

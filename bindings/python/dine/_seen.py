@@ -8,7 +8,9 @@ from __future__ import annotations
 
 from typing import Any, Hashable
 
+# words kinds, by tools/words
 TAKE, GIVE, END, BEGIN, QUIT, HUNGRY, ASK, DONE, CLOSE = range(9)
+# end
 THINKS, IS_HUNGRY, EATS = range(3)
 #: A fork or a token is on its way.
 AWAY = -1

@@ -285,7 +285,7 @@ class OpenTable:
     # ---- Meals
 
     def _refusal(self) -> Exception:
-        return Gone() if self._stage == "broken" else TableClosed()
+        return Gone() if self._stage == "broken" else TableClosed("the table is closed")
 
     def _ask(self, desk: _Desk, waiter: _Waiter) -> None:
         """Puts somebody into the queue of a worker, and does what the rules allow."""

@@ -30,8 +30,8 @@ with table.open() as opened:
         thread.start()
     for n in range(TASKS):
         if n % 8 == 0:
-            time.sleep(0.002)
-        tasks.put((n * n % 8, time.perf_counter()))
+            time.sleep(0.001)
+        tasks.put((n * 5 % 8, time.perf_counter()))
     for thread in threads:
         tasks.put(None)
     for thread in threads:

@@ -440,17 +440,22 @@ def test_each_letter_that_is_refused_by_name():
     b.act(b.next())
     request = b.act(b.next())
     a.take(request)
-    assert status(a, request) == (Status.REQUEST_OUT_OF_TURN, "a Request out of turn")
+    assert status(a, request) == (
+        Status.REQUEST_OUT_OF_TURN, "a Request while the fork is away or the token is here, or after Done, or of "
+        "another edge, or from a site that ate all its meals")
     fork = a.act(a.next())
     assert status(b, fork[:17] + b"\5" + fork[18:]) == (
         Status.LETTER_UNLAWFUL, "the neighbour cannot have done that with the fork")
-    assert status(a, fork) == (Status.FORK_OUT_OF_TURN, "a Fork out of turn")
+    assert status(a, fork) == (Status.FORK_OUT_OF_TURN, "a Fork, although the fork or the token is here")
     done, close = word(3), word(4)
     assert status(b, close) == (Status.CLOSED_EARLY, "a Close before both sites said Done")
     b.take(done)
-    assert status(b, done) == (Status.DONE_OUT_OF_TURN, "a Done out of turn")
+    assert status(b, done) == (
+        Status.DONE_OUT_OF_TURN, "a second Done; or, while the fork is here, a Done of a site that does not resign, "
+        "before the log has all its meals")
     # The neighbour said that it ate all its meals, and its fork says that it did not.
-    assert status(b, fork) == (Status.STRANGE_FORK, "a strange Fork")
+    assert status(b, fork) == (
+        Status.STRANGE_FORK, "a Fork that is not the fork of this edge, or whose log is not as it has to be")
     assert b.next() is None
     sites, boxes = [Site(PAIR, 0), Site(PAIR, 1)], [[], []]
     exchange(sites, boxes)

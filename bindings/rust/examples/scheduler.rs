@@ -26,9 +26,9 @@ fn main() -> Result<(), dine::Error> {
         }
         for n in 0..TASKS {
             if n % 8 == 0 {
-                std::thread::sleep(Duration::from_micros(200));
+                std::thread::sleep(Duration::from_millis(1));
             }
-            send.send((n * n % 8, Instant::now())).unwrap();
+            send.send((n * 5 % 8, Instant::now())).unwrap();
         }
         drop(send);
     });

@@ -1,19 +1,20 @@
-//! Written by tools/bindings from `PlanFault`: why a text is no plan.
+//! Why a text is no plan: the causes of `PlanFault`.
 
 /// Why a text is no plan. The number of a cause is that of `docs/FORMAT.md`.
 #[derive(Clone, Copy, Debug, PartialEq, Eq, Hash)]
 pub enum Cause {
-    /// The text is no TOML.
+    // words causes, by tools/words
+    /// The text is no TOML, or no UTF-8.
     NotToml = 1,
-    /// `version` is absent or is not the whole number 1 or 2.
+    /// The plan has no `version`, or one that is not the whole number 1 or 2.
     Version = 2,
-    /// The document, a site, a job or an edge has a key that its version of the format does not name for it.
+    /// A table has a key that plans do not have there, or not in this version.
     UnknownKey = 3,
     /// A site or a job has no `name`, or an edge no `ends`.
     MissingKey = 4,
-    /// A value is of another kind than the format names for its key.
+    /// A value is of the wrong kind, such as a text for a number, or is a number below 0.
     WrongKind = 5,
-    /// The name of this site, or of one of its jobs, is no name.
+    /// The name of this site, or of one of its jobs, is not 1 to 32 ASCII letters, digits, `_` or `-`.
     BadName = 6,
     /// An earlier site has the name of this site.
     SiteTwice = 7,
@@ -33,14 +34,15 @@ pub enum Cause {
     EdgeTwice = 14,
     /// There are more than 512 edges.
     TooManyEdges = 15,
-    /// A job of this site both adds and sets.
+    /// A job of this site has both `add` and `set`.
     TwoActs = 17,
-    /// A job of this site adds or sets more than 1,000,000.
+    /// A job of this site has `add` or `set` above 1,000,000.
     ActTooLarge = 18,
     /// The value of this edge is above 1,000,000.
     ValueTooLarge = 19,
     /// `on_fault` of this site is neither `go` nor `resign`.
     UnknownPolicy = 20,
+    // end
 }
 
 impl Cause {
@@ -48,12 +50,13 @@ impl Cause {
     pub fn words(self) -> &'static str {
         use Cause::*;
         match self {
-            NotToml => "The text is no TOML.",
-            Version => "`version` is absent or is not the whole number 1 or 2.",
-            UnknownKey => "The document, a site, a job or an edge has a key that its version of the format does not name for it.",
+            // words causes said, by tools/words
+            NotToml => "The text is no TOML, or no UTF-8.",
+            Version => "The plan has no `version`, or one that is not the whole number 1 or 2.",
+            UnknownKey => "A table has a key that plans do not have there, or not in this version.",
             MissingKey => "A site or a job has no `name`, or an edge no `ends`.",
-            WrongKind => "A value is of another kind than the format names for its key.",
-            BadName => "The name of this site, or of one of its jobs, is no name.",
+            WrongKind => "A value is of the wrong kind, such as a text for a number, or is a number below 0.",
+            BadName => "The name of this site, or of one of its jobs, is not 1 to 32 ASCII letters, digits, `_` or `-`.",
             SiteTwice => "An earlier site has the name of this site.",
             NoSite => "There is no site.",
             TooManySites => "There are more than 64 sites.",
@@ -63,16 +66,18 @@ impl Cause {
             Loop => "Both ends of this edge are one site.",
             EdgeTwice => "An earlier edge joins the two sites of this one.",
             TooManyEdges => "There are more than 512 edges.",
-            TwoActs => "A job of this site both adds and sets.",
-            ActTooLarge => "A job of this site adds or sets more than 1,000,000.",
+            TwoActs => "A job of this site has both `add` and `set`.",
+            ActTooLarge => "A job of this site has `add` or `set` above 1,000,000.",
             ValueTooLarge => "The value of this edge is above 1,000,000.",
             UnknownPolicy => "`on_fault` of this site is neither `go` nor `resign`.",
+            // end
         }
     }
 
     pub(crate) fn of(number: i64) -> Option<Cause> {
         use Cause::*;
         Some(match number {
+            // words causes by number, by tools/words
             1 => NotToml,
             2 => Version,
             3 => UnknownKey,
@@ -92,6 +97,7 @@ impl Cause {
             18 => ActTooLarge,
             19 => ValueTooLarge,
             20 => UnknownPolicy,
+            // end
             _ => return None,
         })
     }

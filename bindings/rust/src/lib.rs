@@ -87,18 +87,22 @@ pub enum LetterFault {
 /// Why the rules do not allow a letter now.
 #[derive(Clone, Copy, Debug, PartialEq, Eq)]
 pub enum Breach {
-    /// The neighbour put Close before.
+    // words breaches, by tools/words
+    /// A letter after Close.
     AfterClose,
-    /// A Request while the token is here or the neighbour has the fork.
+    /// A Request while the fork is away or the token is here, or after Done, or of another edge, or from a site that
+    /// ate all its meals.
     RequestOutOfTurn,
-    /// A Fork that was not asked for.
+    /// A Fork, although the fork or the token is here.
     ForkOutOfTurn,
-    /// A Fork whose log does not fit what is known of the neighbour.
+    /// A Fork that is not the fork of this edge, or whose log is not as it has to be.
     StrangeFork,
-    /// A second Done.
+    /// A second Done; or, while the fork is here, a Done of a site that does not resign, before the log has all its
+    /// meals.
     DoneOutOfTurn,
     /// A Close before both sites said Done.
     ClosedEarly,
+    // end
 }
 
 /// Why a text, or what calls describe, is no plan.
@@ -185,12 +189,14 @@ fn answer(status: i64) -> Result<u64> {
         -13 => Err(Error::NoLetter(LetterFault::Unlawful)),
         -14 => Err(Error::NoLetter(LetterFault::Edge)),
         -15 => Err(Error::NoLetter(LetterFault::OtherRun)),
+        // words breaches by status, by tools/words
         -21 => Err(Error::Breach(Breach::AfterClose)),
         -22 => Err(Error::Breach(Breach::RequestOutOfTurn)),
         -23 => Err(Error::Breach(Breach::ForkOutOfTurn)),
         -24 => Err(Error::Breach(Breach::StrangeFork)),
         -25 => Err(Error::Breach(Breach::DoneOutOfTurn)),
         -26 => Err(Error::Breach(Breach::ClosedEarly)),
+        // end
         _ => Err(match Cause::of(-100 - status) {
             Some(cause) => Error::NoPlan(Refusal { cause, position: None }),
             None => Error::Other(status),
@@ -223,30 +229,33 @@ pub fn run_number(text: &str, random: u64) -> u64 {
 /// What a site does in an event. A number is a place.
 #[derive(Clone, Copy, Debug, PartialEq, Eq, Hash)]
 pub enum Kind {
-    /// Takes the next letter.
+    // words kinds, by tools/words
+    /// Takes the next letter in the link to the site.
     Take(u32),
-    /// Gives the fork.
+    /// Sends a dirty fork that the neighbour asked for: the release rule.
     Give(u32),
-    /// Ends its meal.
+    /// Ends a meal.
     End,
     /// Begins a meal.
     Begin,
-    /// Gives up the meals that it has left, after one whose job failed.
+    /// Drops the jobs that it has left, after a meal that failed.
     Quit,
     /// Grows hungry.
     Hungry,
-    /// Asks for the fork.
+    /// Sends the token to ask for the fork: the request rule.
     Ask(u32),
-    /// Says that it needs the fork no more.
+    /// Says that it will ask no more.
     Done(u32),
-    /// Says that no letter follows.
+    /// Says that it will send nothing more.
     Close(u32),
+    // end
 }
 
 impl Kind {
     /// Returns the number of the kind, as in `dine.h`, and the place, which is 0 if the kind has none.
     pub fn numbers(self) -> (u32, u32) {
         match self {
+            // words kinds to numbers, by tools/words
             Kind::Take(i) => (0, i),
             Kind::Give(i) => (1, i),
             Kind::End => (2, 0),
@@ -256,6 +265,7 @@ impl Kind {
             Kind::Ask(i) => (6, i),
             Kind::Done(i) => (7, i),
             Kind::Close(i) => (8, i),
+            // end
         }
     }
 
@@ -269,6 +279,7 @@ impl Kind {
     /// ```
     pub fn of(kind: u32, place: u32) -> Option<Kind> {
         Some(match kind {
+            // words kinds by number, by tools/words
             0 => Kind::Take(place),
             1 => Kind::Give(place),
             2 => Kind::End,
@@ -278,6 +289,7 @@ impl Kind {
             6 => Kind::Ask(place),
             7 => Kind::Done(place),
             8 => Kind::Close(place),
+            // end
             _ => return None,
         })
     }

@@ -304,6 +304,55 @@ fn patience_has_an_end() {
     }
 }
 
+// With patience without end a neighbour is heard only if it looks when the worker has stopped.
+#[test]
+fn a_worker_that_goes_on_is_watched_until_it_stops() {
+    let mut table = Table::new();
+    table.eager();
+    let [a, b, c] = ["a", "b", "c"].map(|it| table.worker(it).unwrap());
+    for (i, j) in [(a, b), (b, c), (a, c)] {
+        table.edge(i, j, 0u64).unwrap();
+    }
+    let open = table.open().unwrap();
+    for round in 0..300 {
+        thread::scope(|scope| {
+            for (worker, meals) in [(a, round % 50), (b, round % 7), (c, 1)] {
+                let open = &open;
+                let eats = move |_| open.eat(worker, |meal| meal.values().for_each(|(_, it)| *it += 1)).unwrap();
+                scope.spawn(move || (0..meals).for_each(eats));
+            }
+        });
+    }
+    let closed = open.close().unwrap();
+    let ate = [a, b, c].map(|it| closed.ate(it));
+    assert_eq!(ate, [7350, 897, 300]);
+    assert_eq!(closed.into_values().iter().sum::<u64>(), 2 * ate.iter().sum::<u64>());
+}
+
+#[test]
+fn a_worker_that_came_again_and_stopped_gives_its_forks() {
+    let mut table = Table::new();
+    table.eager();
+    let (a, b) = (table.worker("a").unwrap(), table.worker("b").unwrap());
+    table.edge(a, b, ()).unwrap();
+    let open = table.open().unwrap();
+    for how in 0..4 {
+        let held = open.lock(b).unwrap();
+        let mut wait = Box::pin(open.lock_async(a));
+        assert!(wait.as_mut().poll(&mut Context::from_waker(&idle())).is_pending());
+        drop(held);
+        drop(block_on(wait).unwrap());
+        // Whoever waited for a has eaten, and comes twice more; then nobody comes.
+        assert!(open.eat(a, |_| ()).is_ok() && open.eat(a, |_| ()).is_ok());
+        match how {
+            0 => assert_eq!(open.try_eat(b, |_| ()), Ok(Some(()))),
+            1 => assert_eq!(open.eat(b, |_| ()), Ok(())),
+            2 => assert_eq!(open.try_eat_for(b, Duration::from_secs(60), |_| ()), Ok(Some(()))),
+            _ => drop(block_on(open.lock_async(b)).unwrap()),
+        }
+    }
+}
+
 #[test]
 fn the_log_keeps_the_last_stays() {
     let mut table = Table::new();

@@ -1,10 +1,7 @@
-//! Worlds, and what their sites do in them, beside a model that keeps whole lists.
+//! Worlds, and what their sites do in them.
 mod graph;
-mod letters;
-mod model;
 mod outcomes;
 mod readers;
-mod side_by_side;
 
 use crate::asserts::{holds, same};
 use crate::forks::{has_log, has_periods};
@@ -13,7 +10,7 @@ use dine_core::{NotEnabled, World};
 use dine_plan::Plan;
 use dine_rules::{Event, EventKind, Phase};
 use dine_test_plans::{ONE_SIDED_PAIR, PAIR};
-use dine_token::{Act, Entry, Fork, Period};
+use dine_token::{Act, Entry, Fork};
 use graph::{Graph, graph_of};
 use std::alloc::Global;
 use std::fmt::Write;
@@ -116,11 +113,6 @@ fn opened(rt: &impl Abort, alloc: Global, plan: &Plan) -> World {
 fn entry_at(rt: &impl Abort, fork: &Fork, i: u32) -> Entry {
     holds(rt, i < fork.len());
     fork.entry(i)
-}
-
-fn period_at(rt: &impl Abort, fork: &Fork, i: u32) -> Period {
-    holds(rt, i < fork.periods());
-    fork.period(i)
 }
 
 // Checks that the event is refused, and that as many events are enabled as before.

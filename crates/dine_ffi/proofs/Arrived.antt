@@ -15,7 +15,7 @@ use Rattle.dine_rules.specs.declared.letters.Letter.TheVariants as letter
 use Rattle.dine_rules.specs.Breach.{first_breach, has_all_of_neighbour, is_allowed, is_fork_of, was_sent_to}
 use Rattle.dine_rules.specs.Holdings.{fork_at, meals_from, token_at}
 use Rattle.dine_rules.specs.Letters.{forks_among, forks_in, has_close, has_done}
-use Rattle.dine_rules.specs.Local.{LocalState, Traffic, edge_at, is_eating, traffic_at}
+use Rattle.dine_rules.specs.Local.{LocalState, Traffic, edge_at, traffic_at}
 use Rattle.dine_rules.specs.Steps.{fork_with, hand_fork_at, opened_fork}
 use Rattle.dine_rules.specs.Streams.{KeepsStreamsAt}
 use Rattle.dine_rules.proofs.lists.Counting.{last_log_or-none}
@@ -195,10 +195,6 @@ module _ (state : LocalState) (own : SeenOwnSite) (is : StandsFor state own) (i 
       cond-false (s == lo_of plan e) (hi_of plan e) (lo_of plan e) (ne_eqb _ _ (λ same. omega (arith, place.ordered, high.0, same))) ∙ sym high.1,
     )
   ]
-
-  -- a site that eats has the fork
-  pub eater_has_fork : is_eating own.core.phase ≡ true → is_held (place_at own.core i).fork ≡ false → ⊥
-  eater_has_fork eats none = omega (arith, no_fork_if none, is.eats_with_all (sym (ap is_eating is.core.phase) ∙ eats) i within)
 
   module _ (kept fork : SeenFork) (away : is_held (place_at own.core i).fork ≡ false) (shelf : kept_at i own.shelf ≡ Some kept) (carried : IsCarriedOn plan kept fork) (note_is : note ≡ fork_note fork) where
     no_fork : fork_at plan s state i ≡ 0

@@ -10,6 +10,8 @@ use Rattle.dine_builder.specs.Draft.{Draft, SeenDraftSite, has_job, no_draft_edg
 use Rattle.dine_ffi.specs.Answers.{IsDoneOr, IsRefused, memory}
 use Rattle.dine_ffi.specs.Builders.{AddsSiteOrRefuses, IsNoPlan, IsSiteRefusedFor, ends_in, names_in}
 use Rattle.dine_ffi.specs.Refusals.{plan_status}
+use Rattle.dine_ffi.specs.declared.own_builder.OwnBuilder.TheInside.{Inside}
+use Rattle.dine_ffi.specs.private.OwnBuilderFields.{HasNamesAndEnds}
 
 -- ---- the names and the ends
 
@@ -50,6 +52,10 @@ names_after_act s k act d = names_after_job s k _ d (has_job s k d)
 
 pub ends_after_act : (s k : ℕ) (act : Act) (d : Draft) → ends_in (with_act s k act d) ≡ ends_in d
 ends_after_act s k act d = ends_after_job s k _ d (has_job s k d)
+
+-- so what is kept is that of the draft, if a call left names and ends as they were
+pub still_kept : (own : Inside) (draft : Draft) → names_in draft ≡ names_in own.builder → ends_in draft ≡ ends_in own.builder → HasNamesAndEnds own → HasNamesAndEnds (record own { builder = draft })
+still_kept own draft names ends held = record { names = held.names ∙ sym names; ends = held.ends ∙ sym ends; few_sites = held.few_sites; few_edges = held.few_edges }
 
 -- how many there are
 pub sites_counted : {X : Type 0} (bytes : X → List ℕ) (names : List X) (d : Draft) → map bytes names ≡ names_in d → length names ≡ length d.sites

@@ -14,7 +14,7 @@ use Rattle.dine_rules.specs.Holdings.{EatsWithAll, forks_held}
 use Rattle.dine_rules.specs.Letters.{forks_among, forks_in}
 use Rattle.dine_rules.specs.Local.{LocalState, Traffic, edge_at, is_eating, is_thinking, no_traffic, start_of, traffic_at}
 use Rattle.dine_rules.specs.Steps as step
-use Rattle.dine_rules.specs.Steps.{Step, after, may, opened_fork, with_put, with_taken}
+use Rattle.dine_rules.specs.Steps.{Step, after, may, opened_fork, with_put}
 use Rattle.dine_rules.specs.Streams.{KeepsStreams}
 use Rattle.dine_rules.proofs.links.Eaters.{start_eats_with_all, step_eats_with_all}
 use Rattle.dine_rules.proofs.lists.Counting.{forks_in-append}
@@ -45,13 +45,6 @@ meal_none plan s state awake = cond-false (is_eating state.phase) (Some (record 
 
 pub meal_some : (plan : SeenPlan) (s : ℕ) (state : LocalState) → is_eating state.phase ≡ true → meal_of plan s state ≡ Some (record { site = s; k = state.ate; forks = forks_in_hand plan s state (all_places state) })
 meal_some plan s state eating = cond-true (is_eating state.phase) (Some (record { site = s; k = state.ate; forks = forks_in_hand plan s state (all_places state) })) None eating
-
--- a site without a meal does not eat
-pub awake_of : (plan : SeenPlan) (s : ℕ) (state : LocalState) → meal_of plan s state ≡ None → is_eating state.phase ≡ false
-awake_of plan s state none = elim (cases_Bool (is_eating state.phase)) [
-  | inl eating ↦ absurd (let some = sym (meal_some plan s state eating) ∙ none in cc)
-  | inr awake ↦ awake
-]
 
 -- a site with a meal eats, with the forks of the state
 meal_forks : (plan : SeenPlan) (s : ℕ) (state : LocalState) (meal : SeenMeal) → Some meal ≡ meal_of plan s state → meal.forks ≡ forks_in_hand plan s state (all_places state)

@@ -75,7 +75,7 @@ impl Handle {
     }
 }
 
-/// Takes what may go to another thread: a handle may.
+/// A handle may go to another thread: this is accepted only since `Handle` is `Send`. Nothing calls it.
 pub fn may_be_sent(handle: Handle) -> Handle {
     sent(handle)
 }

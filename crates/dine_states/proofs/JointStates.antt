@@ -1,6 +1,6 @@
 -- Where the fork and the token of an edge can be: two joint states of its ends and links that no world reaches. All
 -- follows by counting letters.
-use Rattle.std.proofs.Common.{◌≡◌, ◌⊎◌, ℕ, zero, suc, ◌+◌, ◌-◌, ◌<◌, ◌≤◌, ◌==◌, not, Bool, true, false, List, [], ◌∷◌, ◌++◌, length, refl, sym, ◌∙◌, ap, subst, inl, inr, arith, cond}
+use Rattle.std.proofs.Common.{◌≡◌, ℕ, ◌+◌, ◌<◌, ◌≤◌, ◌==◌, not, Bool, true, false, List, [], ◌∷◌, ◌++◌, refl, sym, ◌∙◌, ap, subst, inl, inr, arith, cond}
 use Rattle.std.proofs.lemmas.Bool.{cond-false, cond-true, eq-eqb, false≢true, ne_eqb}
 use Rattle.dine_graph.specs.Plan.{SeenPlan, hi_of, lo_of, other_of}
 use Rattle.dine_rules.specs.declared.letters.Letter.{Letter}

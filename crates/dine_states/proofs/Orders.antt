@@ -7,7 +7,7 @@ use Rattle.std.proofs.lemmas.List.Elements.{Contains-append_cases, Contains-appe
 use Rattle.std.proofs.lemmas.List.Folds.{list_any_at, list_any_none}
 use Rattle.std.proofs.lemmas.List.FromFn.{length-range_with_len, get_or-range_with_len, get_or-map-range_with_len, length-map-range_with_len, map-range_with_len_more}
 use Rattle.std.proofs.lemmas.List.Folds.{map_fixed}
-use Rattle.std.proofs.lemmas.List.Sorted.{IsPermutation-more, IsPermutation-refl, IsPermutation-sym, Contains-permutation}
+use Rattle.std.proofs.lemmas.List.Sorted.{IsPermutation-more, IsPermutation-sym, Contains-permutation}
 use Rattle.dine_graph.specs.Plan.{SeenPlan, edge_count, other_of, site_count}
 use Rattle.dine_rules.specs.World.{WorldState}
 use Rattle.dine_rules.specs.Precedence.{IsAcyclic, StandsBefore, preferred_end}
@@ -39,12 +39,6 @@ pub in_range : (n a : ℕ) → a < n → Contains (range_with_len 0 n) a
 in_range n a within = (a, omega (arith, length-range_with_len 0 n), get_or-range_with_len 0 n a a within ∙ zero-add a)
 
 -- ---- the order
-
-pub begin_order : (n : ℕ) (pairs : List (ℕ × ℕ)) → IsBegun n pairs [] (range_with_len 0 n)
-begin_order n pairs = record {
-  each_once = IsPermutation-refl (range_with_len 0 n);
-  first_before = λ a b pair within in_order. absurd (omega (arith, in_order.1));
-}
 
 pub same : (y : ℕ) → (y == y) ≡ true
 same y = true_from_ne_false (y == y) (λ h. eqb-false y y h refl)
@@ -150,6 +144,3 @@ range_more n =
 -- none of the pairs has a number before this one, as far as a loop has come
 pub free_by : (pairs : List (ℕ × ℕ)) (left : List ℕ) (x n : ℕ) → length pairs ≤ n → ((k : ℕ) (d : ℕ × ℕ) → k < n → is_behind left x (get_or pairs k d) ≡ false) → true ≡ is_free pairs left x
 free_by pairs left x n all none = sym (ap not (list_any_none (is_behind left x) pairs (λ k d h. none k d (omega (arith, h, all)))))
-
-pub not_free_by : (pairs : List (ℕ × ℕ)) (left : List ℕ) (x k : ℕ) (pair : ℕ × ℕ) → k < length pairs → pair ≡ get_or pairs k pair → is_behind left x pair ≡ true → false ≡ is_free pairs left x
-not_free_by pairs left x k pair h is behind = sym (ap not (list_any_at (is_behind left x) pairs k pair h (ap (is_behind left x) (sym is) ∙ behind)))

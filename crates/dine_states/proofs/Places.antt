@@ -1,12 +1,11 @@
 -- The end of an edge at a site, by what a plan returns of it.
-use Rattle.std.proofs.Common.{◌≡◌, ◌⊎◌, ℕ, ◌<◌, ◌==◌, ◌||◌, Bool, true, false, Option, Some, None, List, get_or, length, position, slice_get, refl, sym, ◌∙◌, ap, inl, inr, arith}
+use Rattle.std.proofs.Common.{◌≡◌, ◌⊎◌, ℕ, ◌<◌, ◌==◌, ◌||◌, Bool, true, false, Option, Some, None, List, get_or, position, slice_get, refl, sym, ◌∙◌, ap, inl, inr, arith}
 use Rattle.std.specs.Option.{unwrap_or}
-use Rattle.std.proofs.lemmas.Bool.{eqb-true, eqb-false, false≢true}
+use Rattle.std.proofs.lemmas.Bool.{eqb-true, false≢true}
 use Rattle.std.proofs.lemmas.List.Quantifiers.{position-Some}
 use Rattle.std.proofs.lemmas.Option.{get_or_from_slice_get, slice_get-get_or, slice_get_within}
 use Rattle.dine_graph.specs.Plan.{SeenPlan, IsPlan, edge_count, edges_of, hi_of, is_end, lo_of, other_of, site_count}
-use Rattle.dine_rules.specs.Local.{edge_at, neighbour_at}
-use Rattle.dine_rules.specs.World.{place_of}
+use Rattle.dine_rules.specs.Local.{edge_at}
 use Rattle.dine_states.specs.Ends.{IsEnd}
 use Rattle.dine_states.specs.declared.ends.End.{End}
 use Rattle.dine_states.proofs.Orders.{same}

@@ -1,8 +1,8 @@
 -- What the readers of a world return, as facts of the state.
-use Rattle.std.proofs.Common.{◌≡◌, ◌⊎◌, ℕ, ◌+◌, ◌<◌, ◌≤◌, ◌==◌, ◌&&◌, ◌||◌, not, nat_lt, cond, Bool, true, false, Option, Some, None, MatchOption, is_some, option_map, option_and_then, List, get_or, length, slice_get, slice_set, refl, sym, ◌∙◌, ap, subst, inl, inr, arith}
+use Rattle.std.proofs.Common.{◌≡◌, ℕ, ◌<◌, ◌≤◌, ◌==◌, ◌&&◌, ◌||◌, not, nat_lt, cond, Bool, true, false, Option, Some, None, MatchOption, is_some, option_map, option_and_then, get_or, length, slice_get, slice_set, refl, sym, ◌∙◌, ap, subst, inl, inr, arith}
 use Rattle.std.specs.Option.{unwrap_or}
 use Rattle.std.proofs.lemmas.Bool.{and_parts, cond-true, eqb-false, eqb-true, false≢true, lt-ltb, ne_eqb}
-use Rattle.std.proofs.lemmas.Option.{none-some, same_Some, slice_get_cases, unwrap_or-slice_get, slice_get-get_or}
+use Rattle.std.proofs.lemmas.Option.{none-some, same_Some, unwrap_or-slice_get, slice_get-get_or}
 use Rattle.dine_token.specs.Log.{is_dirty}
 use Rattle.dine_graph.specs.Plan.{SeenPlan, edge_count, edges_of, hi_of, job_count, lo_of, site_count}
 use Rattle.dine_rules.specs.declared.events.EventKind.{EventKind}
@@ -17,7 +17,7 @@ use Rattle.dine_rules.specs.Streams.{KeepsStreams, KeepsStreamsAt}
 use Rattle.dine_rules.specs.World.{WorldState, is_enabled, local_after, no_state, place_of, state_of, step_of}
 use Rattle.dine_core.specs.declared.world.whereabouts.Whereabouts.{Whereabouts}
 use Rattle.dine_core.specs.declared.world.whereabouts.Whereabouts.TheVariants.{At, To}
-use Rattle.dine_core.specs.Whereabouts.{IsEndOf, IsThere, ReportsWhere, at_edge, at_place, forks_at, holds_dirty, is_fork_dirty, is_place}
+use Rattle.dine_core.specs.Whereabouts.{IsEndOf, IsThere, ReportsWhere, at_place, forks_at, holds_dirty, is_fork_dirty, is_place}
 use Rattle.dine_core.specs.Worlds.{IsReached}
 use Rattle.dine_rules.proofs.links.EdgeSums.{one_fork_of_edge, one_token_of_edge}
 use Rattle.dine_rules.proofs.links.WorldStreams.{WorldKeeps, reached_kept}

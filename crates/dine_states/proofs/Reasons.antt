@@ -1,5 +1,5 @@
 -- An event is enabled exactly if none of its reasons holds. The first part is about truth values alone.
-use Rattle.std.proofs.Common.{◌≡◌, ℕ, zero, suc, ◌-◌, ◌<◌, ◌≤◌, ◌==◌, ◌&&◌, ◌||◌, not, nat_lt, cond, Bool, true, false, Option, Some, None, is_some, List, [], ◌∷◌, drop, length, slice_get, slice_set, option_and_then, option_map, find, refl, sym, ◌∙◌, ap, subst, inl, inr, arith}
+use Rattle.std.proofs.Common.{◌≡◌, ℕ, zero, suc, ◌<◌, ◌≤◌, ◌==◌, ◌&&◌, ◌||◌, not, nat_lt, cond, Bool, true, false, Option, Some, None, is_some, List, [], ◌∷◌, drop, length, slice_get, slice_set, option_and_then, option_map, find, refl, sym, ◌∙◌, ap, subst, inl, inr, arith}
 use Rattle.std.specs.List.{list_all, list_any, range_with_len}
 use Rattle.std.proofs.lemmas.Bool.{cond-false, cond-true, eq-eqb, eqb-false, eqb-true, false≢true, le-ltb, lt-ltb, ltb-true, ne_eqb}
 use Rattle.std.proofs.lemmas.List.{length-drop}
@@ -17,7 +17,7 @@ use Rattle.dine_rules.specs.Breach.{is_allowed}
 use Rattle.dine_rules.specs.Holdings.{fork_at, hand_at, token_at}
 use Rattle.dine_rules.specs.Letters.{has_close, has_done}
 use Rattle.dine_rules.specs.Links.{queue_to}
-use Rattle.dine_rules.specs.Local.{LocalState, Traffic, has_no_job_left, is_eating, is_hungry, is_thinking, meal_fails, traffic_at}
+use Rattle.dine_rules.specs.Local.{LocalState, has_no_job_left, is_eating, is_hungry, is_thinking, meal_fails, traffic_at}
 use Rattle.dine_rules.specs.Steps.{Step, is_ready, may, shape_of}
 use Rattle.dine_rules.specs.Steps as step
 use Rattle.dine_rules.specs.Streams.{KeepsStreams, is_orderly}
@@ -31,96 +31,25 @@ use Rattle.dine_states.specs.Reasons.{holds, is_event, is_within, reasons_of, wh
 use Rattle.dine_states.proofs.Reading.{enabled_is}
 
 give_law : (p : Phase) (closed fork token dirty : Bool) → (closed || (not fork || (not token || (is_eating p || (not dirty || false))))) ≡ not ((not (is_eating p) && (fork && token)) && (dirty && not closed))
-give_law Thinking true true true true = refl
-give_law Thinking true true true false = refl
-give_law Thinking true true false dirty = refl
-give_law Thinking true false token dirty = refl
-give_law Hungry true true true true = refl
-give_law Hungry true true true false = refl
-give_law Hungry true true false dirty = refl
-give_law Hungry true false token dirty = refl
-give_law Eating true fork token dirty = refl
-give_law Thinking false true true true = refl
-give_law Thinking false true true false = refl
-give_law Hungry false true true true = refl
-give_law Hungry false true true false = refl
-give_law Eating false true true dirty = refl
-give_law Thinking false true false dirty = refl
-give_law Hungry false true false dirty = refl
-give_law Eating false true false dirty = refl
-give_law Thinking false false token dirty = refl
-give_law Hungry false false token dirty = refl
-give_law Eating false false token dirty = refl
+give_law p closed fork token dirty = grind arith
 
 ask_law : (p : Phase) (closed fork token : Bool) → (closed || (fork || (not token || (not (is_hungry p) || false)))) ≡ not ((is_hungry p && (token && not fork)) && not closed)
-ask_law Thinking true fork token = refl
-ask_law Hungry true true true = refl
-ask_law Hungry true false true = refl
-ask_law Hungry true fork false = refl
-ask_law Eating true fork token = refl
-ask_law Thinking false true token = refl
-ask_law Hungry false true true = refl
-ask_law Hungry false true false = refl
-ask_law Eating false true token = refl
-ask_law Thinking false false true = refl
-ask_law Hungry false false true = refl
-ask_law Eating false false true = refl
-ask_law Thinking false false false = refl
-ask_law Hungry false false false = refl
-ask_law Eating false false false = refl
+ask_law p closed fork token = grind arith
 
 close_law : (closed said heard : Bool) → (closed || (not said || (not heard || false))) ≡ not ((said && heard) && not closed)
-close_law true true true = refl
-close_law true true false = refl
-close_law true false heard = refl
-close_law false true true = refl
-close_law false true false = refl
-close_law false false heard = refl
+close_law closed said heard = grind arith
 
 begin_law : (p : Phase) (all_ready : Bool) → ((is_hungry p && not all_ready) || (is_eating p || (not (is_hungry p) || false))) ≡ not (is_hungry p && all_ready)
-begin_law Thinking all_ready = refl
-begin_law Hungry true = refl
-begin_law Hungry false = refl
-begin_law Eating all_ready = refl
+begin_law p all_ready = grind arith
 
 hungry_law : (p : Phase) (quit must all_eaten : Bool) → (is_hungry p || (is_eating p || (quit || (must || ((all_eaten || quit) || false))))) ≡ not ((is_thinking p && not all_eaten) && (not must && not quit))
-hungry_law Thinking true must true = refl
-hungry_law Thinking true true false = refl
-hungry_law Thinking true false false = refl
-hungry_law Thinking false true true = refl
-hungry_law Thinking false true false = refl
-hungry_law Thinking false false true = refl
-hungry_law Thinking false false false = refl
-hungry_law Hungry quit must all_eaten = refl
-hungry_law Eating quit must all_eaten = refl
+hungry_law p quit must all_eaten = grind arith
 
 quit_law : (p : Phase) (must resigns quit : Bool) → (must ≡ true → (resigns ≡ true) × (is_thinking p ≡ true)) → (must ≡ true → quit ≡ false) → (not resigns || (quit || (is_eating p || (not must || false)))) ≡ not (is_thinking p && must)
-quit_law Thinking true true true drops once = absurd (false≢true (sym (once refl)))
-quit_law Thinking false true true drops once = refl
-quit_law Hungry must true true drops once = refl
-quit_law Eating must true true drops once = refl
-quit_law Thinking true true false drops once = refl
-quit_law Thinking false true false drops once = refl
-quit_law Hungry true true false drops once = absurd (false≢true (drops refl).1)
-quit_law Hungry false true false drops once = refl
-quit_law Eating must true false drops once = refl
-quit_law Thinking true false quit drops once = absurd (false≢true (drops refl).0)
-quit_law Thinking false false quit drops once = refl
-quit_law Hungry must false quit drops once = refl
-quit_law Eating must false quit drops once = refl
+quit_law p must resigns quit drops once = grind arith
 
 done_law : (p : Phase) (closed said none_left : Bool) → (closed ≡ true → said ≡ true) → (is_hungry p ≡ true → none_left ≡ false) → (said || (not none_left || (is_eating p || false))) ≡ not ((is_thinking p && none_left) && (not said && not closed))
-done_law Thinking closed true true order left = refl
-done_law Thinking closed true false order left = refl
-done_law Hungry closed true none_left order left = refl
-done_law Eating closed true none_left order left = refl
-done_law Thinking true false true order left = absurd (false≢true (order refl))
-done_law Thinking false false true order left = refl
-done_law Hungry closed false true order left = absurd (false≢true (sym (left refl)))
-done_law Eating closed false true order left = refl
-done_law Thinking closed false false order left = refl
-done_law Hungry closed false false order left = refl
-done_law Eating closed false false order left = refl
+done_law p closed said none_left order left = grind arith
 
 -- ---- the reasons of an event
 
@@ -153,16 +82,9 @@ known_of plan world reached = record {
 }
 
 -- each kind of events has a first reason, that there is no such event
-first_reason : (kind : EventKind) → (rest : List Reason) × (reasons_of kind ≡ NoEvent ∷ rest)
+pub first_reason : (kind : EventKind) → (rest : List Reason) × (reasons_of kind ≡ NoEvent ∷ rest)
 first_reason (event.Take i) = (_, refl)
-first_reason (event.Give i) = (_, refl)
-first_reason event.End = (_, refl)
-first_reason event.Begin = (_, refl)
-first_reason event.Quit = (_, refl)
-first_reason event.Hungry = (_, refl)
-first_reason (event.Ask i) = (_, refl)
-first_reason (event.Done i) = (_, refl)
-first_reason (event.Close i) = (_, refl)
+first_reason _ = (_, refl)
 
 -- no letter is in a link whose next letter is none, and one is in any other
 none_left_in : (xs : List Letter) (k : ℕ) → slice_get xs k ≡ None → (length (drop k xs) == 0) ≡ true

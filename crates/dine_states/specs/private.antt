@@ -1,1 +1,2 @@
 pub mod ScheduleFields
+pub mod ReasonsAtEnds

@@ -1,7 +1,9 @@
 //! The events of a world in words.
 ghost use Rattle.std.specs.Prelude.{◌≡◌, IfSome, option_map, slice_get};
+ghost use Rattle.dine_rules.specs.Steps.{shape_of};
 ghost use Rattle.dine_rules.specs.World.{enabled_events};
 ghost use Rattle.dine_core.specs.Worlds.{ForEachWorld};
+ghost use Rattle.dine_states.specs.private.ReasonsAtEnds.{event_place};
 
 use dine_core::{Event, EventKind, Kind4, World};
 use dine_graph::Plan;
@@ -101,7 +103,9 @@ pub fn name_of(plan: &Plan, site: u32) -> &str {
 }
 
 /// Returns the place of an event of this kind among the edges of its site, or `None` if it has none.
-pub fn place_of(kind: EventKind) -> Option<u32> {
+pub fn place_of(kind: EventKind) -> Option<u32>
+    ensures { result ≡ event_place (shape_of kind) }
+{
     match kind {
         EventKind::Take(i)
         | EventKind::Give(i)

@@ -1,19 +1,20 @@
 //! What holds of a site of a world and of one of its places.
-ghost use Rattle.std.specs.Prelude.{◌≡◌, ◌<◌, ◌==◌, length};
+ghost use Rattle.std.specs.Prelude.{◌≡◌, ◌<◌, ◌==◌, ◌&&◌, length};
 ghost use Rattle.dine_token.specs.Log as log;
 ghost use Rattle.dine_graph.specs.Plan.{job_count, site_count};
 ghost use Rattle.dine_rules.specs.Holdings.{fork_at, hand_at, token_at};
-ghost use Rattle.dine_rules.specs.Letters.{forks_in, has_close, has_done};
+ghost use Rattle.dine_rules.specs.Letters.{forks_in};
 ghost use Rattle.dine_rules.specs.Links.{queue_to};
 ghost use Rattle.dine_rules.specs.Local as local;
 ghost use Rattle.dine_rules.specs.Local.{traffic_at};
 ghost use Rattle.dine_rules.specs.World.{WorldState, is_enabled, state_of};
+ghost use Rattle.dine_core.specs.Whereabouts.{said_in};
 ghost use Rattle.dine_core.specs.Worlds.{ForEachWorld, IsWorldOf};
 ghost use Rattle.dine_states.specs.Ends.{IsEnd, is_at, is_going_to};
 ghost use Rattle.dine_states.specs.Reasons.{is_waiting};
 
 use crate::ends::End;
-use dine_core::{Event, EventKind, Phase, Whereabouts, World};
+use dine_core::{Event, EventKind, Phase, Said, Whereabouts, World};
 use dine_graph::Plan;
 
 /// Returns whether the site is hungry.
@@ -185,39 +186,33 @@ pub(crate) fn is_dirty(plan: &Plan, world: &World, end: End) -> bool
     }
 }
 
-/// Returns whether the site at the end has put Close.
-pub(crate) fn has_put_close(plan: &Plan, world: &World, end: End) -> bool
+/// Returns whether the site at the end holds the fork, and the fork is dirty.
+pub(crate) fn holds_dirty_fork(plan: &Plan, world: &World, end: End) -> bool
     requires { IsEnd plan.now end }
     ensures { (state : WorldState) → IsWorldOf plan.now state world.now
-        → result ≡ has_close (traffic_at (state_of state end.site) end.place).put }
+        → result ≡ (fork_at plan.now end.site (state_of state end.site) end.place == 1
+        && log.is_dirty (hand_at end.site (state_of state end.site) end.place)) }
 {
-    match world.said(end.site, end.place) {
-        Some(said) => said.close_put,
-        None => false,
+    if !holds_fork(plan, world, end) {
+        return false;
     }
+    is_dirty(plan, world, end)
 }
 
-/// Returns whether the site at the end has put Done.
-pub(crate) fn has_put_done(plan: &Plan, world: &World, end: End) -> bool
+/// Returns which of Done and Close the site at the end has put and taken.
+pub(crate) fn said_at(plan: &Plan, world: &World, end: End) -> Said
     requires { IsEnd plan.now end }
     ensures { (state : WorldState) → IsWorldOf plan.now state world.now
-        → result ≡ has_done (traffic_at (state_of state end.site) end.place).put }
+        → result ≡ said_in (traffic_at (state_of state end.site) end.place) }
 {
     match world.said(end.site, end.place) {
-        Some(said) => said.done_put,
-        None => false,
-    }
-}
-
-/// Returns whether the site at the end has taken Done.
-pub(crate) fn has_taken_done(plan: &Plan, world: &World, end: End) -> bool
-    requires { IsEnd plan.now end }
-    ensures { (state : WorldState) → IsWorldOf plan.now state world.now
-        → result ≡ has_done (traffic_at (state_of state end.site) end.place).taken }
-{
-    match world.said(end.site, end.place) {
-        Some(said) => said.done_taken,
-        None => false,
+        Some(said) => said,
+        None => Said {
+            done_put: false,
+            done_taken: false,
+            close_put: false,
+            close_taken: false,
+        },
     }
 }
 

@@ -1,17 +1,20 @@
 //! Why an event is not enabled.
-ghost use Rattle.std.specs.Prelude.{◌≡◌, ◌<◌, not, is_some};
+ghost use Rattle.std.specs.Prelude.{◌≡◌, ◌<◌, not, is_some, false, true, MatchOption};
+ghost use Rattle.std.specs.List.{find, list_any};
 ghost use Rattle.dine_graph.specs.Plan.{site_count};
-ghost use Rattle.dine_rules.specs.declared.events.EventKind.TheVariants as kinds;
 ghost use Rattle.dine_rules.specs.World.{WorldState, is_enabled};
 ghost use Rattle.dine_core.specs.Worlds.{IsWorldOf};
 ghost use Rattle.dine_states.specs.Ends.{IsEnd};
-ghost use Rattle.dine_states.specs.Reasons.{why_not};
+ghost use Rattle.dine_states.specs.Reasons.{is_event, reasons_of, why_not};
+ghost use Rattle.dine_states.specs.private.ReasonsAtEnds.{IsEndFor, holds_at, is_of_place};
 
 use crate::ends::End;
+use crate::events::place_of;
 use crate::readers::{
-    has_no_job_left, has_no_letter, has_put_close, has_put_done, has_quit, has_taken_done,
-    holds_fork, holds_token, is_dirty, is_eating, is_hungry, is_waiting, must_quit,
+    has_no_job_left, has_no_letter, has_quit, holds_dirty_fork, holds_fork, holds_token, is_eating,
+    is_hungry, is_waiting, must_quit, said_at,
 };
+use Reason::*;
 use dine_core::{Event, EventKind, World};
 use dine_graph::Plan;
 
@@ -68,28 +71,28 @@ impl Reason {
     /// Returns the name that docs/STATES.md has.
     pub fn name(self) -> &'static str {
         match self {
-            Reason::NoEvent => "no_event",
-            Reason::NoLetter => "no_letter",
-            Reason::Closed => "closed",
-            Reason::NoFork => "no_fork",
-            Reason::HasFork => "has_fork",
-            Reason::NotAsked => "not_asked",
-            Reason::Asked => "asked",
-            Reason::Clean => "clean",
-            Reason::Said => "said",
-            Reason::NotSaid => "not_said",
-            Reason::NotHeard => "not_heard",
-            Reason::JobsLeft => "jobs_left",
-            Reason::NoJobs => "no_jobs",
-            Reason::Hungry => "hungry",
-            Reason::NotHungry => "not_hungry",
-            Reason::Eating => "eating",
-            Reason::NotEating => "not_eating",
-            Reason::Waits => "waits",
-            Reason::NeverResigns => "never_resigns",
-            Reason::HasQuit => "has_quit",
-            Reason::MustQuit => "must_quit",
-            Reason::NoFault => "no_fault",
+            NoEvent => "no_event",
+            NoLetter => "no_letter",
+            Closed => "closed",
+            NoFork => "no_fork",
+            HasFork => "has_fork",
+            NotAsked => "not_asked",
+            Asked => "asked",
+            Clean => "clean",
+            Said => "said",
+            NotSaid => "not_said",
+            NotHeard => "not_heard",
+            JobsLeft => "jobs_left",
+            NoJobs => "no_jobs",
+            Hungry => "hungry",
+            NotHungry => "not_hungry",
+            Eating => "eating",
+            NotEating => "not_eating",
+            Waits => "waits",
+            NeverResigns => "never_resigns",
+            HasQuit => "has_quit",
+            MustQuit => "must_quit",
+            NoFault => "no_fault",
         }
     }
 }
@@ -102,41 +105,9 @@ pub fn why_not(plan: &Plan, world: &World, event: Event) -> Option<Reason>
     ensures enabled { (state : WorldState) → IsWorldOf plan.now state world.now
         → is_some result ≡ not (is_enabled plan.now state event) }
 {
-    first_reason(plan, world, event)
-}
-
-// The first reason of the event that holds.
-fn first_reason(plan: &Plan, world: &World, event: Event) -> Option<Reason>
-    ensures { (state : WorldState) → IsWorldOf plan.now state world.now → result ≡ why_not plan.now state event }
-{
-    if event.site >= plan.sites() {
-        return Some(Reason::NoEvent);
-    }
-    match event.kind {
-        EventKind::End => why_not_end(plan, world, event.site),
-        EventKind::Begin => why_not_begin(plan, world, event.site),
-        EventKind::Quit => why_not_quit(plan, world, event.site),
-        EventKind::Hungry => why_not_hungry(plan, world, event.site),
-        EventKind::Take(i) => match End::at(plan, event.site, i) {
-            Some(end) => why_not_take(plan, world, end),
-            None => Some(Reason::NoEvent),
-        },
-        EventKind::Give(i) => match End::at(plan, event.site, i) {
-            Some(end) => why_not_give(plan, world, end),
-            None => Some(Reason::NoEvent),
-        },
-        EventKind::Ask(i) => match End::at(plan, event.site, i) {
-            Some(end) => why_not_ask(plan, world, end),
-            None => Some(Reason::NoEvent),
-        },
-        EventKind::Done(i) => match End::at(plan, event.site, i) {
-            Some(end) => why_not_done(plan, world, end),
-            None => Some(Reason::NoEvent),
-        },
-        EventKind::Close(i) => match End::at(plan, event.site, i) {
-            Some(end) => why_not_close(plan, world, end),
-            None => Some(Reason::NoEvent),
-        },
+    match end_of(plan, event) {
+        Some(end) => first_that_holds(plan, world, end, reasons_of(event.kind)),
+        None => Some(NoEvent),
     }
 }
 
@@ -153,170 +124,85 @@ pub(crate) fn name_of_why_not(
     }
 }
 
-// Why the site may not do Take at this end.
-fn why_not_take(plan: &Plan, world: &World, end: End) -> Option<Reason>
-    requires { IsEnd plan.now end }
-    ensures { (state : WorldState) → IsWorldOf plan.now state world.now
-        → result ≡ why_not plan.now state (record { site = end.site; kind = kinds.Take end.place }) }
+// The end that the event is at. None if the plan has no such event. An event without a place is at no end. Then only
+// the site of the result counts, since no reason of the event is about a place.
+fn end_of(plan: &Plan, event: Event) -> Option<End>
+    ensures { MatchOption result (is_event plan.now event ≡ false) (IsEndFor plan.now event) }
 {
-    if has_no_letter(plan, world, end) {
-        return Some(Reason::NoLetter);
+    if event.site >= plan.sites() {
+        return None;
+    }
+    match place_of(event.kind) {
+        Some(place) => End::at(plan, event.site, place),
+        None => Some(End {
+            edge: 0,
+            site: event.site,
+            place: 0,
+            neighbour: 0,
+        }),
+    }
+}
+
+// The reasons of each kind of events, in the order in which they are looked for.
+fn reasons_of(kind: EventKind) -> &'static [Reason]
+    ensures { result.now ≡ reasons_of kind }
+{
+    match kind {
+        EventKind::Take(_) => &[NoEvent, NoLetter],
+        EventKind::Give(_) => &[NoEvent, Closed, NoFork, NotAsked, Eating, Clean],
+        EventKind::End => &[NoEvent, NotEating],
+        EventKind::Begin => &[NoEvent, Waits, Eating, NotHungry],
+        EventKind::Quit => &[NoEvent, NeverResigns, HasQuit, Eating, NoFault],
+        EventKind::Hungry => &[NoEvent, Hungry, Eating, HasQuit, MustQuit, NoJobs],
+        EventKind::Ask(_) => &[NoEvent, Closed, HasFork, Asked, NotHungry],
+        EventKind::Done(_) => &[NoEvent, Said, JobsLeft, Eating],
+        EventKind::Close(_) => &[NoEvent, Closed, NotSaid, NotHeard],
+    }
+}
+
+// The first of the reasons that holds at the end.
+fn first_that_holds(plan: &Plan, world: &World, end: End, reasons: &[Reason]) -> Option<Reason>
+    requires site { end.site < site_count plan.now }
+    requires place { list_any is_of_place reasons.now ≡ true → IsEnd plan.now end }
+    ensures { (state : WorldState) → IsWorldOf plan.now state world.now
+        → result ≡ find (holds_at plan.now state end.site end.place) reasons.now }
+{
+    for reason in reasons {
+        if holds(plan, world, end, *reason) {
+            return Some(*reason);
+        }
     }
     None
 }
 
-// Why the site may not do Give at this end.
-fn why_not_give(plan: &Plan, world: &World, end: End) -> Option<Reason>
-    requires { IsEnd plan.now end }
+// Whether the reason holds at the end of an event, which is there. A fork that the site does not hold counts as clean.
+fn holds(plan: &Plan, world: &World, end: End, reason: Reason) -> bool
+    requires site { end.site < site_count plan.now }
+    requires place { is_of_place reason ≡ true → IsEnd plan.now end }
     ensures { (state : WorldState) → IsWorldOf plan.now state world.now
-        → result ≡ why_not plan.now state (record { site = end.site; kind = kinds.Give end.place }) }
+        → result ≡ holds_at plan.now state end.site end.place reason }
 {
-    if has_put_close(plan, world, end) {
-        return Some(Reason::Closed);
+    match reason {
+        NoEvent => false,
+        NoLetter => has_no_letter(plan, world, end),
+        Closed => said_at(plan, world, end).close_put,
+        NoFork => !holds_fork(plan, world, end),
+        HasFork => holds_fork(plan, world, end),
+        NotAsked | Asked => !holds_token(plan, world, end),
+        Clean => !holds_dirty_fork(plan, world, end),
+        Said => said_at(plan, world, end).done_put,
+        NotSaid => !said_at(plan, world, end).done_put,
+        NotHeard => !said_at(plan, world, end).done_taken,
+        JobsLeft => !has_no_job_left(plan, world, end.site),
+        NoJobs => has_no_job_left(plan, world, end.site),
+        Hungry => is_hungry(world, end.site),
+        NotHungry => !is_hungry(world, end.site),
+        Eating => is_eating(world, end.site),
+        NotEating => !is_eating(world, end.site),
+        Waits => is_waiting(plan, world, end.site),
+        NeverResigns => !plan.resigns(end.site),
+        HasQuit => has_quit(plan, world, end.site),
+        MustQuit => must_quit(plan, world, end.site),
+        NoFault => !must_quit(plan, world, end.site),
     }
-    if !holds_fork(plan, world, end) {
-        return Some(Reason::NoFork);
-    }
-    if !holds_token(plan, world, end) {
-        return Some(Reason::NotAsked);
-    }
-    if is_eating(world, end.site) {
-        return Some(Reason::Eating);
-    }
-    if !is_dirty(plan, world, end) {
-        return Some(Reason::Clean);
-    }
-    None
-}
-
-// Why the site may not do End.
-fn why_not_end(plan: &Plan, world: &World, site: u32) -> Option<Reason>
-    requires { site < site_count plan.now }
-    ensures { (state : WorldState) → IsWorldOf plan.now state world.now
-        → result ≡ why_not plan.now state (record { site = site; kind = kinds.End }) }
-{
-    if !is_eating(world, site) {
-        return Some(Reason::NotEating);
-    }
-    None
-}
-
-// Why the site may not do Begin.
-fn why_not_begin(plan: &Plan, world: &World, site: u32) -> Option<Reason>
-    requires { site < site_count plan.now }
-    ensures { (state : WorldState) → IsWorldOf plan.now state world.now
-        → result ≡ why_not plan.now state (record { site = site; kind = kinds.Begin }) }
-{
-    if is_waiting(plan, world, site) {
-        return Some(Reason::Waits);
-    }
-    if is_eating(world, site) {
-        return Some(Reason::Eating);
-    }
-    if !is_hungry(world, site) {
-        return Some(Reason::NotHungry);
-    }
-    None
-}
-
-// Why the site may not do Quit.
-fn why_not_quit(plan: &Plan, world: &World, site: u32) -> Option<Reason>
-    requires { site < site_count plan.now }
-    ensures { (state : WorldState) → IsWorldOf plan.now state world.now
-        → result ≡ why_not plan.now state (record { site = site; kind = kinds.Quit }) }
-{
-    if !plan.resigns(site) {
-        return Some(Reason::NeverResigns);
-    }
-    if has_quit(plan, world, site) {
-        return Some(Reason::HasQuit);
-    }
-    if is_eating(world, site) {
-        return Some(Reason::Eating);
-    }
-    if !must_quit(plan, world, site) {
-        return Some(Reason::NoFault);
-    }
-    None
-}
-
-// Why the site may not do Hungry.
-fn why_not_hungry(plan: &Plan, world: &World, site: u32) -> Option<Reason>
-    requires { site < site_count plan.now }
-    ensures { (state : WorldState) → IsWorldOf plan.now state world.now
-        → result ≡ why_not plan.now state (record { site = site; kind = kinds.Hungry }) }
-{
-    if is_hungry(world, site) {
-        return Some(Reason::Hungry);
-    }
-    if is_eating(world, site) {
-        return Some(Reason::Eating);
-    }
-    if has_quit(plan, world, site) {
-        return Some(Reason::HasQuit);
-    }
-    if must_quit(plan, world, site) {
-        return Some(Reason::MustQuit);
-    }
-    if has_no_job_left(plan, world, site) {
-        return Some(Reason::NoJobs);
-    }
-    None
-}
-
-// Why the site may not do Ask at this end.
-fn why_not_ask(plan: &Plan, world: &World, end: End) -> Option<Reason>
-    requires { IsEnd plan.now end }
-    ensures { (state : WorldState) → IsWorldOf plan.now state world.now
-        → result ≡ why_not plan.now state (record { site = end.site; kind = kinds.Ask end.place }) }
-{
-    if has_put_close(plan, world, end) {
-        return Some(Reason::Closed);
-    }
-    if holds_fork(plan, world, end) {
-        return Some(Reason::HasFork);
-    }
-    if !holds_token(plan, world, end) {
-        return Some(Reason::Asked);
-    }
-    if !is_hungry(world, end.site) {
-        return Some(Reason::NotHungry);
-    }
-    None
-}
-
-// Why the site may not do Done at this end.
-fn why_not_done(plan: &Plan, world: &World, end: End) -> Option<Reason>
-    requires { IsEnd plan.now end }
-    ensures { (state : WorldState) → IsWorldOf plan.now state world.now
-        → result ≡ why_not plan.now state (record { site = end.site; kind = kinds.Done end.place }) }
-{
-    if has_put_done(plan, world, end) {
-        return Some(Reason::Said);
-    }
-    if !has_no_job_left(plan, world, end.site) {
-        return Some(Reason::JobsLeft);
-    }
-    if is_eating(world, end.site) {
-        return Some(Reason::Eating);
-    }
-    None
-}
-
-// Why the site may not do Close at this end.
-fn why_not_close(plan: &Plan, world: &World, end: End) -> Option<Reason>
-    requires { IsEnd plan.now end }
-    ensures { (state : WorldState) → IsWorldOf plan.now state world.now
-        → result ≡ why_not plan.now state (record { site = end.site; kind = kinds.Close end.place }) }
-{
-    if has_put_close(plan, world, end) {
-        return Some(Reason::Closed);
-    }
-    if !has_put_done(plan, world, end) {
-        return Some(Reason::NotSaid);
-    }
-    if !has_taken_done(plan, world, end) {
-        return Some(Reason::NotHeard);
-    }
-    None
 }

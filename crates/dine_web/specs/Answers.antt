@@ -25,10 +25,6 @@ Refuses bytes text = (refusal : Refusal) × IsRefused bytes refusal × Says refu
 abbrev pub IsOfPlan : List ℕ → List ℕ → Type 0
 IsOfPlan bytes text = IsPlan bytes ⊎ Refuses bytes text
 
--- the answer of a check: that it is done, if the plan is not refused, and else why it is
-abbrev pub IsCheckOf : List ℕ → List ℕ → Type 0
-IsCheckOf bytes text = (IsPlan bytes × (text ≡ codes "{}")) ⊎ Refuses bytes text
-
 -- the answer is that it is done, or why it is not
 abbrev pub IsDone : Result (Unit {0}) Refusal → List ℕ → Type 0
 IsDone (Ok _) text = text ≡ codes "{}"

@@ -67,6 +67,8 @@ refusal_text Closed = codes "{\"refused\":{\"line\":\"the handle is closed\"}}"
 refusal_text OpenAlready = codes "{\"refused\":{\"line\":\"the handle is open\"}}"
 refusal_text NoEvent = codes "{\"refused\":{\"line\":\"no such event\"}}"
 
--- the text is that of the refusal; one of more than 128 bytes, which there is none, would be cut off and end in dots
+-- The text is that of the refusal. That of a plan may be any that ends in dots instead, as one of more than 128 bytes
+-- would: none is that long, but the kit does not say when a text is cut off.
 abbrev pub Says : Refusal → List ℕ → Type 0
-Says refusal = IsTextOrCut 128 (refusal_text refusal)
+Says (NoPlan fault) text = IsTextOrCut 128 (refusal_text (NoPlan fault)) text
+Says refusal text = text ≡ refusal_text refusal

@@ -4,7 +4,7 @@ ghost use Rattle.std.specs.String.{string_bytes};
 ghost use Rattle.dine_web.specs.Answers.{AnswersBy, IsDone, Writes};
 ghost use Rattle.dine_web.specs.Refusals.{Says};
 
-use crate::refusals::Refusal;
+use crate::refusals::{CLOSED, NO_EVENT, OPEN_ALREADY, OUT_OF_MEMORY, Refusal};
 use std::fmt::InlineText;
 
 // The most bytes of a refusal. The longest has 108.
@@ -31,12 +31,21 @@ pub(crate) fn write_done(answered: Result<(), Refusal>, answer: &mut [u8]) -> u6
     }
 }
 
-// Writes a refusal. This takes no memory, since an allocation may be what failed.
+// Writes a refusal. This takes no memory, since an allocation may be what failed. Only that of a plan has parts, and is
+// put together in a text that would be cut off at its length.
 fn write_refusal(refusal: Refusal, answer: &mut [u8]) -> u64
     ensures { AnswersBy (Says refusal) answer.old answer.new result }
 {
-    let text = InlineText::<LENGTH>::of(refusal);
-    write_bytes(text.as_str().as_bytes(), answer)
+    match refusal {
+        Refusal::NoPlan(_) => {
+            let text = InlineText::<LENGTH>::of(refusal);
+            write_bytes(text.as_str().as_bytes(), answer)
+        }
+        Refusal::OutOfMemory => write_bytes(OUT_OF_MEMORY.as_bytes(), answer),
+        Refusal::Closed => write_bytes(CLOSED.as_bytes(), answer),
+        Refusal::OpenAlready => write_bytes(OPEN_ALREADY.as_bytes(), answer),
+        Refusal::NoEvent => write_bytes(NO_EVENT.as_bytes(), answer),
+    }
 }
 
 // Writes the bytes, as many as fit, and returns how many there are.

@@ -89,7 +89,7 @@ fn restart(alloc: Global, handle: &mut Handle) -> Result<(), Refusal>
     done
 }
 
-/// Answers with the state, as `dine_states` has it.
+/// Answers with the state, as `dine_trace --states` prints it.
 #[unsafe(no_mangle)]
 pub extern "C" fn dine_now(alloc: Global, handle: &mut Handle, answer: &mut [u8]) -> u64
     ensures same { handle.new.slot.held ≡ handle.old.slot.held }

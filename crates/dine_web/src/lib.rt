@@ -5,10 +5,9 @@
 #![tactic(auto)]
 
 mod answers;
+pub mod events;
 pub mod handle;
 pub mod handle_calls;
-pub mod list_calls;
-mod lists;
 pub mod open_schedule;
 mod plans;
 mod refusals;

@@ -3,6 +3,15 @@ use dine_reader::PlanFault;
 use std::alloc::AllocError;
 use std::fmt;
 
+// The texts of the refusals that have no parts.
+pub(crate) const OUT_OF_MEMORY: &str = "{\"refused\":{\"line\":\"out of memory\"}}";
+
+pub(crate) const CLOSED: &str = "{\"refused\":{\"line\":\"the handle is closed\"}}";
+
+pub(crate) const OPEN_ALREADY: &str = "{\"refused\":{\"line\":\"the handle is open\"}}";
+
+pub(crate) const NO_EVENT: &str = "{\"refused\":{\"line\":\"no such event\"}}";
+
 /// Why a call has no other answer.
 #[derive(Clone, Copy)]
 pub(crate) enum Refusal {
@@ -36,10 +45,10 @@ impl fmt::Display for Refusal {
                     "{{\"refused\":{{\"line\":\"plan refused: {fault}\",\"fault\":{number},\"at\":{named}}}}}"
                 )
             }
-            Refusal::OutOfMemory => f.write_str("{\"refused\":{\"line\":\"out of memory\"}}"),
-            Refusal::Closed => f.write_str("{\"refused\":{\"line\":\"the handle is closed\"}}"),
-            Refusal::OpenAlready => f.write_str("{\"refused\":{\"line\":\"the handle is open\"}}"),
-            Refusal::NoEvent => f.write_str("{\"refused\":{\"line\":\"no such event\"}}"),
+            Refusal::OutOfMemory => f.write_str(OUT_OF_MEMORY),
+            Refusal::Closed => f.write_str(CLOSED),
+            Refusal::OpenAlready => f.write_str(OPEN_ALREADY),
+            Refusal::NoEvent => f.write_str(NO_EVENT),
         }
     }
 }

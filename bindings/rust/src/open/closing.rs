@@ -89,6 +89,7 @@ impl<T: Send, S: Send> OpenTable<T, S> {
                     state.has_fork(i, values[place.edge as usize].take());
                 }
             }
+            seat.lacks.store(state.lacks(), Ordering::Relaxed);
             if !state.queue.is_empty() {
                 todo.visit |= 1 << seat.number;
             }

@@ -6,7 +6,7 @@
 //! receiver afterwards, so when no thread is inside the library, each inbox is empty and no site has an event left but to
 //! grow hungry, which nobody wants, or to end a meal, which its eater will do.
 
-use super::sites::{take_lowest, Seat, State};
+use super::sites::{bit, take_lowest, Seat, State};
 use super::waiting::Waiter;
 use super::{lock, OpenTable, Stage};
 use crate::{Error, Kind, Result};
@@ -16,10 +16,16 @@ use std::sync::Arc;
 // What is left to do once no lock is held.
 #[derive(Default)]
 pub(super) struct Todo {
-    // Workers that got a letter, and those of which the first in the queue is to ask again, as bits.
+    // Workers that got a letter, and those of which the first in the queue is to look at a neighbour, as bits.
     pub visit: u64,
     pub nudge: u64,
+    // Those that may have got their last fork. They are visited before the others.
+    pub first: u64,
+    // The neighbours at which those that are nudged are to look.
+    pub nudgers: u64,
     pub wake: Vec<Arc<Waiter>>,
+    // Whoever has come for a meal in this call, and has to wait unless all that it lacks is idle.
+    pub caller: Option<Arc<Waiter>>,
     renew: bool,
     all_finished: bool,
 }
@@ -63,7 +69,7 @@ impl<T: Send, S: Send> OpenTable<T, S> {
     pub(super) fn finish(&self, todo: &mut Todo) -> Result<()> {
         loop {
             todo.wake.drain(..).for_each(|it| it.wake());
-            let mut who = todo.visit | todo.nudge;
+            let mut who = if todo.first == 0 { todo.visit | todo.nudge } else { todo.first };
             if let Some(n) = take_lowest(&mut who) {
                 self.visit(n, todo)?;
             } else if std::mem::take(&mut todo.all_finished) {
@@ -81,16 +87,18 @@ impl<T: Send, S: Send> OpenTable<T, S> {
 
     fn visit(&self, n: usize, todo: &mut Todo) -> Result<()> {
         let seat = &self.seats[n];
+        let is_nudged = todo.nudge >> n & 1 == 1;
+        for who in [&mut todo.visit, &mut todo.nudge, &mut todo.first] {
+            *who &= !(1 << n);
+        }
         let mut state = lock(&seat.state);
         self.attend(seat, &mut state, todo, Taker::Nobody)?;
-        if todo.nudge >> n & 1 == 1 {
+        if is_nudged {
             if let (true, false, Some(first)) = (state.hungry, state.eats, state.queue.front()) {
-                first.nudge();
+                first.nudge(todo.nudgers);
                 todo.wake.push(first.clone());
             }
         }
-        todo.visit &= !(1 << n);
-        todo.nudge &= !(1 << n);
         Ok(())
     }
 
@@ -135,6 +143,13 @@ impl<T: Send, S: Send> OpenTable<T, S> {
             let wants = is_open && (taker == Taker::Me || !state.queue.is_empty());
             self.settle(seat, state, todo, wants, patience)?;
             match state.site.next() {
+                None => break,
+                Some(Kind::Hungry) if is_open && !wants => break,
+                Some(_) if todo.first != 0 => {
+                    // The next to eat is visited first. Then this one is visited again, for the rest.
+                    todo.visit |= bit(seat.number);
+                    return Ok(false);
+                }
                 Some(Kind::Begin) => {
                     self.begin_meal(seat, state)?;
                     if is_open && taker == Taker::Me {
@@ -142,10 +157,8 @@ impl<T: Send, S: Send> OpenTable<T, S> {
                     }
                     self.serve(seat, state, todo, is_open)?;
                 }
-                Some(Kind::Hungry) if is_open && !wants => break,
                 Some(Kind::Hungry) => self.grow_hungry(seat, state)?,
                 Some(kind) => self.put(seat, state, todo, kind)?,
-                None => break,
             }
         }
         if !state.eats {
@@ -159,6 +172,9 @@ impl<T: Send, S: Send> OpenTable<T, S> {
         match if is_open { state.queue.pop_front() } else { None } {
             Some(waiter) => {
                 waiter.serve();
+                // Whoever has just fetched idle forks did not wait.
+                let is_caller = todo.caller.as_ref().map_or(false, |it| Arc::ptr_eq(it, &waiter));
+                state.streak = u32::from(!is_caller);
                 todo.wake.push(waiter);
                 Ok(())
             }

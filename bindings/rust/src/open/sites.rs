@@ -12,7 +12,7 @@ use super::OpenTable;
 use crate::table::WorkerId;
 use crate::{Event, Kind, Result, Site, KIND_AT, LETTER_MAX};
 use std::collections::VecDeque;
-use std::sync::atomic::{AtomicBool, Ordering};
+use std::sync::atomic::{AtomicBool, AtomicU32, Ordering};
 use std::sync::{Arc, Mutex};
 
 // The kinds of letters.
@@ -43,6 +43,8 @@ pub(super) struct Seat<T, S> {
     inbox: Mutex<Vec<Post<T>>>,
     // The worker eats or is hungry. Only a hint, for `try_lock`.
     pub is_busy: AtomicBool,
+    // How many of its forks are elsewhere. Only a hint: whoever lacks one is likely to be the next to eat.
+    pub lacks: AtomicU32,
     pub state: Mutex<State<T, S>>,
 }
 
@@ -74,8 +76,13 @@ pub(super) struct State<T, S> {
     requests: Vec<PutOff>,
     // Nobody waits for the meal that the site is hungry for.
     pub is_hurried: bool,
-    // A neighbour was woken to ask again, and has not come yet.
+    // A neighbour was woken to look whether somebody is still here, and is yet to look, or to look again.
     pub has_nudged: bool,
+    // The meals of the worker when it nudged, or when a neighbour last looked.
+    pub looked: u32,
+    // The meals in turn since one was begun for somebody who waited, if no neighbour was heard since. From the second
+    // on somebody has come again.
+    pub streak: u32,
     pub queue: VecDeque<Arc<Waiter>>,
     pub is_counted: bool,
     pub journal: Option<Vec<Event>>,
@@ -96,8 +103,13 @@ pub(super) fn take_lowest(bits: &mut u64) -> Option<usize> {
 
 impl<T, S> Seat<T, S> {
     pub fn new(number: u32, places: Box<[Place]>, state: State<T, S>) -> Seat<T, S> {
-        let (inbox, is_busy) = (Mutex::new(Vec::new()), AtomicBool::new(false));
-        Seat { number, places, inbox, is_busy, state: Mutex::new(state) }
+        let (inbox, lacks) = (Mutex::new(Vec::new()), AtomicU32::new(state.lacks()));
+        Seat { number, places, inbox, is_busy: AtomicBool::new(false), lacks, state: Mutex::new(state) }
+    }
+
+    // Those of its places whose bits are set.
+    pub fn places_of(&self, bits: u64) -> impl Iterator<Item = &Place> {
+        self.places.iter().enumerate().filter(move |it| bits >> it.0 & 1 == 1).map(|it| it.1)
     }
 }
 
@@ -119,6 +131,8 @@ impl<T, S> State<T, S> {
             requests: vec![PutOff::default(); degree],
             is_hurried: false,
             has_nudged: false,
+            looked: 0,
+            streak: 0,
             queue: VecDeque::new(),
             is_counted: false,
             journal: if journals { Some(Vec::new()) } else { None },
@@ -136,6 +150,7 @@ impl<T, S> State<T, S> {
         self.urgent = 0;
         self.is_hurried = false;
         self.has_nudged = false;
+        self.streak = 0;
         self.is_counted = false;
     }
 
@@ -144,8 +159,14 @@ impl<T, S> State<T, S> {
         self.forks |= bit(place as u64);
     }
 
-    pub fn has_all(&self) -> bool {
-        self.forks.count_ones() as usize == self.requests.len()
+    // How many forks are elsewhere.
+    pub fn lacks(&self) -> u32 {
+        self.requests.len() as u32 - self.forks.count_ones()
+    }
+
+    // The places whose fork it asks for. None if it eats, or if it does not ask.
+    pub fn lacking(&self) -> u64 {
+        if self.hungry && !self.eats { !self.forks } else { 0 }
     }
 
     // Nobody eats, asks or waits here.
@@ -183,8 +204,9 @@ impl<T: Send, S: Send> OpenTable<T, S> {
         let i = usize::from(post.place);
         let letter = &post.letter[..usize::from(post.len)];
         if letter[KIND_AT] == REQUEST && self.manner.patience > 0 {
-            // If nobody is here, nothing is put off.
-            let is_urgent = post.is_urgent || state.is_idle();
+            // If nobody is here, nothing is put off, unless somebody comes again and again: between two meals nobody is
+            // here either. Then `settle` has a neighbour look.
+            let is_urgent = post.is_urgent || state.is_idle() && state.streak < 2;
             state.put_off |= bit(post.place);
             state.urgent = state.urgent & !bit(post.place) | u64::from(is_urgent) << i;
             state.requests[i].ate = state.ate;
@@ -196,6 +218,7 @@ impl<T: Send, S: Send> OpenTable<T, S> {
         if letter[KIND_AT] == FORK {
             state.has_fork(i, post.value);
             state.clean |= bit(post.place);
+            seat.lacks.store(state.lacks(), Ordering::Relaxed);
         }
         Ok(())
     }
@@ -214,27 +237,43 @@ impl<T: Send, S: Send> OpenTable<T, S> {
         if due == 0 {
             return Ok(());
         }
-        let may_stay = if wants || state.hungry { wants && state.has_all() } else { true };
+        let may_stay = if wants || state.hungry { wants && state.lacks() == 0 } else { true };
         let (mut rest, mut is_over) = (due, !may_stay);
         while let Some(i) = take_lowest(&mut rest) {
             let is_urgent = !wants && state.urgent >> i & 1 == 1;
             is_over |= is_urgent || state.ate - state.requests[i].ate >= patience;
         }
         if is_over {
-            return self.take_requests(seat, state, due);
+            self.take_requests(seat, state, due)?;
+            // The next to eat is not kept waiting by the others.
+            let next = (0u32..).zip(seat.places.iter()).find(|it| due >> it.0 & 1 == 1 && self.lacks(it.1) == 1);
+            return next.map_or(Ok(()), |it| self.put(seat, state, todo, Kind::Give(it.0)));
         }
         if !wants && !state.has_nudged {
-            // Somebody may come for this worker soon, or nobody. The neighbour that has waited longest is to look.
-            let is_due = |i: &usize| due >> i & 1 == 1;
-            let oldest = (0..seat.places.len()).filter(is_due).min_by_key(|i| state.requests[*i].ate);
-            todo.nudge |= oldest.map_or(0, |i| bit(seat.places[i].neighbour));
-            state.has_nudged = true;
+            self.nudge(seat, state, todo, due);
         }
         Ok(())
     }
 
+    // How many forks the neighbour at a place lacks, or lacked a moment ago.
+    fn lacks(&self, place: &Place) -> u32 {
+        self.seats[place.neighbour as usize].lacks.load(Ordering::Relaxed)
+    }
+
+    // Somebody may come for this worker soon, or nobody. A neighbour is to look: one that lacks no other fork, since it
+    // is the next to eat, or else the one that has waited longest.
+    fn nudge(&self, seat: &Seat<T, S>, state: &mut State<T, S>, todo: &mut Todo, due: u64) {
+        let asks = seat.places.iter().enumerate().filter(|it| due >> it.0 & 1 == 1);
+        let first = asks.min_by_key(|it| (self.lacks(it.1) > 1, state.requests[it.0].ate));
+        todo.nudge |= first.map_or(0, |it| bit(it.1.neighbour));
+        todo.nudgers |= bit(seat.number);
+        state.has_nudged = true;
+        state.looked = state.ate;
+    }
+
     fn take_requests(&self, seat: &Seat<T, S>, state: &mut State<T, S>, mut places: u64) -> Result<()> {
         state.has_nudged = false;
+        state.streak = 0;
         state.put_off &= !places;
         while let Some(i) = take_lowest(&mut places) {
             state.note(seat.number, Kind::Take(i as u32));
@@ -260,6 +299,7 @@ impl<T: Send, S: Send> OpenTable<T, S> {
         let i = match kind {
             Kind::Give(i) => {
                 state.forks &= !bit(i);
+                seat.lacks.store(state.lacks(), Ordering::Relaxed);
                 post.value = state.values[i as usize].take();
                 i
             }
@@ -270,6 +310,9 @@ impl<T: Send, S: Send> OpenTable<T, S> {
         post.place = place.there;
         lock(&self.seats[place.neighbour as usize].inbox).push(post);
         todo.visit |= bit(place.neighbour);
+        if kind == Kind::Give(i) && self.lacks(place) == 1 {
+            todo.first |= bit(place.neighbour);
+        }
         Ok(())
     }
 
@@ -285,6 +328,7 @@ impl<T: Send, S: Send> OpenTable<T, S> {
         state.note(seat.number, Kind::Begin);
         state.site.begin()?;
         state.ate += 1;
+        state.streak += u32::from(state.streak > 0);
         state.hungry = false;
         state.eats = true;
         state.clean = 0;

@@ -4,31 +4,38 @@
 //! wakes it; so nobody wakes up to find that a fork was given away again. Whoever gives up leaves the queue. By the rules
 //! what its worker has asked for cannot be withdrawn: the worker stays hungry, and its meal goes to the next who comes, or
 //! ends at once.
+//!
+//! With patience a worker may have put off requests when nobody is there for it any more. So after a meal it nudges the
+//! first in the queue of a neighbour, who looks whether it is idle, and then makes it hear all requests. While it goes
+//! on, that thread looks again from time to time, and nobody else is nudged.
 
 use super::helping::{Taker, Todo};
 use super::meals::{AsyncMeal, Got, Held, Meal};
-use super::sites::{bit, Seat, State};
+use super::sites::{bit, Place, Seat, State};
 use super::{lock, OpenTable, Stage};
 use crate::table::WorkerId;
 use crate::{Error, Result};
 use std::cell::RefCell;
 use std::future::Future;
 use std::pin::Pin;
-use std::sync::atomic::{AtomicBool, AtomicU8, Ordering};
+use std::sync::atomic::{AtomicU64, AtomicU8, Ordering};
 use std::sync::{Arc, Mutex, MutexGuard};
 use std::task::{Context, Poll, Waker};
 use std::thread::Thread;
 use std::time::{Duration, Instant};
 
-// How often a thread that waits looks before it sleeps.
-const SPINS: u32 = 100;
+// How long a thread that waits looks for its meal before it sleeps.
+const SPIN: Duration = Duration::from_nanos(400);
+
+// When a thread looks again at a neighbour that goes on. The system makes it some 50 microseconds more.
+const WATCH: Duration = Duration::from_micros(20);
 
 // Who waits for a meal.
 pub(super) struct Waiter {
     // Changes under the lock of the seat.
     fate: AtomicU8,
-    // It is to ask again: a neighbour that has put its request off may be idle now.
-    is_nudged: AtomicBool,
+    // The neighbours at which it is to look, as bits: they have put requests off, and maybe nobody comes for them now.
+    nudged_by: AtomicU64,
     wake: Wake,
 }
 
@@ -46,7 +53,7 @@ enum Fate {
 
 impl Waiter {
     fn new(wake: Wake) -> Waiter {
-        Waiter { fate: AtomicU8::new(Fate::Waits as u8), is_nudged: AtomicBool::new(false), wake }
+        Waiter { fate: AtomicU8::new(Fate::Waits as u8), nudged_by: AtomicU64::new(0), wake }
     }
 
     fn fate(&self) -> Fate {
@@ -61,12 +68,20 @@ impl Waiter {
         self.fate.store(Fate::SentAway as u8, Ordering::Release);
     }
 
-    pub fn nudge(&self) {
-        self.is_nudged.store(true, Ordering::SeqCst);
+    pub fn nudge(&self, by: u64) {
+        self.nudged_by.fetch_or(by, Ordering::SeqCst);
     }
 
-    fn takes_nudge(&self) -> bool {
-        self.is_nudged.swap(false, Ordering::SeqCst)
+    fn takes_nudges(&self) -> u64 {
+        self.nudged_by.swap(0, Ordering::SeqCst)
+    }
+
+    // Looks for its fate for some time.
+    fn spin(&self, time: Duration) {
+        let mut begun = None;
+        while self.fate() == Fate::Waits && begun.get_or_insert_with(Instant::now).elapsed() < time {
+            std::hint::spin_loop();
+        }
     }
 
     pub fn wake(&self) {
@@ -103,6 +118,21 @@ enum Until {
 impl Until {
     fn after(time: Duration) -> Until {
         Instant::now().checked_add(time).map_or(Until::Ever, Until::Then)
+    }
+
+    // Sleeps until this thread is woken, for a time at most. Returns false if there is no time left.
+    fn sleep(self, at_most: Duration) -> bool {
+        let left = match self {
+            Until::Now => Duration::ZERO,
+            Until::Then(then) => then.saturating_duration_since(Instant::now()),
+            Until::Ever => Duration::MAX,
+        };
+        match left.min(at_most) {
+            Duration::ZERO => return false,
+            Duration::MAX => std::thread::park(),
+            time => std::thread::park_timeout(time),
+        }
+        true
     }
 }
 
@@ -232,9 +262,10 @@ impl<T: Send, S: Send> OpenTable<T, S> {
         }
         let me = ME.with(Arc::clone);
         me.fate.store(Fate::Waits as u8, Ordering::Relaxed);
-        me.is_nudged.store(false, Ordering::Relaxed);
+        me.nudged_by.store(0, Ordering::Relaxed);
         state.queue.push_back(me.clone());
         drop(state);
+        todo.caller = Some(me.clone());
         self.finish(&mut todo)?;
         self.sleep(seat, &me, until)
     }
@@ -261,31 +292,24 @@ impl<T: Send, S: Send> OpenTable<T, S> {
         if let Until::Now = until {
             return self.give_up(seat, me);
         }
-        for _ in 0..SPINS {
-            if me.fate() != Fate::Waits {
-                break;
-            }
-            std::hint::spin_loop();
-        }
+        me.spin(SPIN);
+        // The neighbours that have nudged this thread, and at which it is still to look.
+        let mut watched = 0;
         loop {
             match me.fate() {
                 Fate::Waits => {}
                 Fate::Eats => return Ok(Some(Got::take(&mut lock(&seat.state)))),
                 Fate::SentAway => return Err(self.refusal()),
             }
-            if me.takes_nudge() {
-                self.hurry(seat, false)?;
-                continue;
-            }
-            match until {
-                Until::Then(then) => {
-                    let now = Instant::now();
-                    if then <= now {
-                        return self.give_up(seat, me);
-                    }
-                    std::thread::park_timeout(then - now);
+            watched |= me.takes_nudges();
+            if watched != 0 {
+                watched = self.look(seat, watched)?;
+                if watched == 0 {
+                    continue;
                 }
-                _ => std::thread::park(),
+            }
+            if !until.sleep(if watched == 0 { Duration::MAX } else { WATCH }) {
+                return self.give_up(seat, me);
             }
         }
     }
@@ -310,28 +334,47 @@ impl<T: Send, S: Send> OpenTable<T, S> {
     // Makes neighbours hear this worker that have put off its request, and at which nobody eats or waits now; if it is for
     // good, also later.
     fn hurry(&self, seat: &Seat<T, S>, for_good: bool) -> Result<()> {
-        let missing = {
+        let lacking = {
             let mut state = lock(&seat.state);
             state.is_hurried |= for_good;
-            if !state.hungry || state.eats {
-                return Ok(());
-            }
-            !state.forks
+            state.lacking()
         };
-        for (_, place) in seat.places.iter().enumerate().filter(|it| missing >> it.0 & 1 == 1) {
-            let mut todo = Todo::default();
-            let other = &self.seats[place.neighbour as usize];
-            let mut state = lock(&other.state);
-            self.drain(other, &mut state).map_err(|it| self.broken(it))?;
-            state.has_nudged = false;
-            if for_good || state.is_idle() {
-                state.urgent |= state.put_off & bit(place.there);
-            }
-            self.attend(other, &mut state, &mut todo, Taker::Nobody)?;
+        seat.places_of(lacking).try_for_each(|place| self.press(place, for_good))
+    }
+
+    // Looks at the neighbours that have nudged this worker, and makes them hear it. One that has begun a meal since it
+    // nudged, or since the last look, may go on and be between two meals: if it had to hear, its forks would move after
+    // each. So it is returned, to be looked at again, and nudges nobody till then. If this worker eats before that, the
+    // neighbour has given its fork, and so has heard all who asked.
+    fn look(&self, seat: &Seat<T, S>, nudgers: u64) -> Result<u64> {
+        let lacking = lock(&seat.state).lacking();
+        let mut again = 0;
+        for place in seat.places_of(lacking).filter(|it| nudgers >> it.neighbour & 1 == 1) {
+            let mut state = lock(&self.seats[place.neighbour as usize].state);
+            let goes_on = state.has_nudged && state.looked != state.ate;
+            state.looked = state.ate;
             drop(state);
-            self.finish(&mut todo)?;
+            if goes_on {
+                again |= bit(place.neighbour);
+            } else {
+                self.press(place, false)?;
+            }
         }
-        Ok(())
+        Ok(again)
+    }
+
+    fn press(&self, place: &Place, for_good: bool) -> Result<()> {
+        let mut todo = Todo::default();
+        let other = &self.seats[place.neighbour as usize];
+        let mut state = lock(&other.state);
+        self.drain(other, &mut state).map_err(|it| self.broken(it))?;
+        state.has_nudged = false;
+        if for_good || state.is_idle() {
+            state.urgent |= state.put_off & bit(place.there);
+        }
+        self.attend(other, &mut state, &mut todo, Taker::Nobody)?;
+        drop(state);
+        self.finish(&mut todo)
     }
 }
 
@@ -365,6 +408,7 @@ impl<'a, T: Send, S: Send> LockFuture<'a, T, S> {
         }
         let me = Arc::new(Waiter::new(Wake::Task(Mutex::new(Some(context.waker().clone())))));
         state.queue.push_back(me.clone());
+        todo.caller = Some(me.clone());
         self.waiter = Some(me);
         drop(state);
         open.finish(&mut todo)?;
@@ -373,7 +417,8 @@ impl<'a, T: Send, S: Send> LockFuture<'a, T, S> {
 
     // In the queue: looks whether the meal has begun.
     fn look(&mut self, seat: &'a Seat<T, S>, me: &Waiter) -> Result<Option<Got<T, S>>> {
-        if me.fate() == Fate::Waits && me.takes_nudge() {
+        if me.fate() == Fate::Waits && me.takes_nudges() != 0 {
+            // A task has no clock, so it does not look again.
             self.open.hurry(seat, false)?;
         }
         match me.fate() {

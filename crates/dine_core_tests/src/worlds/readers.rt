@@ -1,6 +1,5 @@
 //! Where forks and tokens are, the letters in the links, and who put Done, as a world reports it.
 
-use super::model::Model;
 use super::{opened, pair, spend};
 use crate::asserts::same;
 use dine_core::{Said, Whereabouts, World};
@@ -22,40 +21,6 @@ fn has_letters(rt: &impl Abort, world: &World, site: u32, place: u32, kinds: &[K
         let kind = kinds.get(n as usize).copied();
         same(rt, &world.letter_to(site, place, n), &kind);
     }
-}
-
-// Checks that world and model report the same of the fork and the token of an edge.
-fn same_fork_and_token<R: Abort>(rt: &R, model: &Model<R>, world: &World, edge: u32) {
-    let fork = model.where_is(edge, Kind4::Fork);
-    same(rt, &world.where_is_fork(edge), &fork);
-    let token = model.where_is(edge, Kind4::Request);
-    same(rt, &world.where_is_token(edge), &token);
-    same(rt, &world.is_fork_dirty(edge), &model.is_fork_dirty(edge));
-}
-
-/// Checks that world and model report the same of each edge, and of each place of each site.
-pub(super) fn same_readers<R: Abort>(rt: &R, model: &Model<R>, world: &World) {
-    let edges = model.graph.edge_count();
-    for edge in 0..edges {
-        same_fork_and_token(rt, model, world, edge);
-    }
-    same(
-        rt,
-        &(world.where_is_fork(edges), world.where_is_token(edges)),
-        &(None, None),
-    );
-    same(rt, &world.is_fork_dirty(edges), &None);
-    let sites = model.graph.sites();
-    for site in 0..sites {
-        let places = model.graph.degree(site);
-        for place in 0..places {
-            let kinds = model.kinds_in_link(site, place);
-            has_letters(rt, world, site, place, kinds.as_slice());
-            same(rt, &world.said(site, place), &Some(model.said(site, place)));
-        }
-        reports_nothing(rt, world, site, places);
-    }
-    reports_nothing(rt, world, sites, 0);
 }
 
 // Checks what each end of the pair has put, if both have put the same.

@@ -1,4 +1,4 @@
-use Rattle.std.proofs.Common.{Bool, true, ◌&&◌, ◌==◌, not, sym, ◌∙◌, ap}
+use Rattle.std.proofs.Common.{◌==◌, not, sym, ◌∙◌, ap}
 use Rattle.std.proofs.lemmas.Bool.{eq-eqb, eqb-true}
 use Rattle.dine_token.specs.Log.{is_dirty}
 use Rattle.dine_rules.specs.Holdings.{fork_at, hand_at, token_at}

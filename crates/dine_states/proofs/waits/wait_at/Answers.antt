@@ -1,4 +1,4 @@
-use Rattle.std.proofs.Common.{◌≡◌, ℕ, true, ap, subst, sym, ◌∙◌}
+use Rattle.std.proofs.Common.{◌≡◌, ℕ, true, ap, subst, sym}
 use Rattle.dine_rules.specs.World.{place_of}
 use Rattle.dine_rules.specs.Local.{neighbour_at}
 use Rattle.dine_states.specs.Waits.{keeps_by}

@@ -1,15 +1,7 @@
-use Rattle.std.proofs.Common.{sym, ap, ◌∙◌}
+use Rattle.std.proofs.Common.{ap, ◌∙◌}
 use Rattle.dine_ffi.specs.Builders.{ends_in, names_in}
-use Rattle.dine_ffi.proofs.Built.{ends_after_failure, names_after_failure}
+use Rattle.dine_ffi.proofs.Built.{ends_after_failure, names_after_failure, still_kept}
 use Rattle.dine_ffi.proofs.own_builder.OwnBuilder.fails.Goals as goal
 
 pub invariant_of-self : goal.invariant_of-self
-invariant_of-self c =
-    let kept = c.self.inside in
-    let held = c.self.invariant in
-    record {
-      names = held.names ∙ sym (ap names_in c.fails.ensures.changed ∙ names_after_failure c.args.site c.args.k kept.builder);
-      ends = held.ends ∙ sym (ap ends_in c.fails.ensures.changed ∙ ends_after_failure c.args.site c.args.k kept.builder);
-      few_sites = held.few_sites;
-      few_edges = held.few_edges;
-    }
+invariant_of-self c = still_kept c.self.inside c.fails.new.self (ap names_in c.fails.ensures.changed ∙ names_after_failure c.args.site c.args.k c.self.inside.builder) (ap ends_in c.fails.ensures.changed ∙ ends_after_failure c.args.site c.args.k c.self.inside.builder) c.self.invariant

@@ -1,16 +1,48 @@
 use mir.Syntax.{w64}
 use mir.Val.{SFits}
-use Rattle.std.proofs.Common.{rules, ◌≡◌, ℕ, ◌<◌, ◌^◌, ℤ, refl, sym, ◌∙◌, ap, inl, subst}
+use Rattle.std.proofs.Common.{rules, ◌≡◌, ℕ, ◌<◌, ◌^◌, ℤ, pos, List, length, Some, refl, sym, ◌∙◌, ap, inl, subst}
 use Rattle.std.proofs.lemmas.Int.{to_z-of_z}
+use Rattle.dine_graph.specs.Plan.{edges_of}
+use Rattle.dine_rules.specs.declared.breach.Breach.{Breach}
+use Rattle.dine_rules.specs.declared.letters.Letter.{Letter}
 use Rattle.dine_rules.specs.declared.letters.Letter.TheVariants as letter
-use Rattle.dine_wire.specs.Notes.{IsInBytes}
+use Rattle.dine_rules.specs.Local.{LocalState, edge_at}
+use Rattle.dine_rules.specs.Steps as step
+use Rattle.dine_site_core.specs.Standing.{ReportsBreach}
+use Rattle.dine_wire.specs.Carried.{IsOfKept}
+use Rattle.dine_wire.specs.Notes.{IsInBytes, told_of}
 use Rattle.dine_wire.specs.Runs.{IsNoLetter, bytes_in_run}
+use Rattle.dine_wire.specs.declared.note.Note.{Note}
 use Rattle.dine_wire.specs.declared.note.Told.{Told}
-use Rattle.dine_ffi.specs.Answers.{wire_status}
-use Rattle.dine_ffi.specs.OwnSites.{TakesOrRefuses, ToldRefuses, WordRefuses}
+use Rattle.dine_ffi.specs.Answers.{IsRefused, breach_status, wire_status}
+use Rattle.dine_ffi.specs.OwnSites.{SeenOwnSite, SiteSteps, TakesOrRefuses, ToldRefuses, WordRefuses}
+use Rattle.dine_ffi.specs.Shelves.{kept_at, taken_off}
 use Rattle.dine_ffi.proofs.NotTaken.{done_or, of_other_run, of_own_run, other_edge_refuses, place_refuses, refused_is, word_refuses}
 use Rattle.dine_ffi.proofs.Told.{fork_takes, word_takes}
 use Rattle.dine_ffi.proofs.own_site.OwnSite.take.Goals as goal
+
+-- what the call does with the note of a letter other than a Fork, by what taking that letter does
+word_outcome : (bytes : List ℕ) (old new : SeenOwnSite) (run : ℕ) (note : Note) (i : ℕ) (l : Letter) (r : ℤ)
+    → run ≡ old.run → bytes ≡ bytes_in_run run note → IsInBytes note → run < 2 ^ 64 → (edge_at old.plan old.core.site i ≡ note.edge) × (i < length (edges_of old.plan old.core.site))
+    → note.told ≡ told_of l → IsOfKept old.plan (kept_at i old.shelf) (edge_at old.plan old.core.site i) l → taken_off i l old.shelf ≡ old.shelf
+    → ((state : LocalState) → WordRefuses i l r state old → ToldRefuses i note.edge (told_of l) r state old)
+    → (r ≡ pos 0 → SiteSteps (step.Take i l) old new) → ((r ≡ pos 0 → ⊥) → new ≡ old) → ((r ≡ pos 0 → ⊥) → IsRefused r)
+    → ((r ≡ pos 0 → ⊥) → i < length old.core.places → (b : Breach) × ReportsBreach old.core i l (Some b) × (r ≡ breach_status b))
+    → TakesOrRefuses bytes r old new
+word_outcome bytes old new run note i l r same_run in_run in_bytes small at told of_kept same_shelf as_told did stays negative why =
+    let read : bytes ≡ bytes_in_run old.run note = in_run ∙ ap (λ (x : ℕ). bytes_in_run x note) same_run in
+    record {
+      outcome = done_or r _ _
+          (λ zero. (zero, (i, l, word_takes bytes note i old new read at.0 l told of_kept same_shelf (did zero))))
+          negative
+          (λ refused state is. (
+            stays refused,
+            place_refuses bytes note old read in_bytes state is i at.0 at.1 r
+                (λ h. subst (λ (t : Told). ToldRefuses i note.edge t r state old) (sym told)
+                (as_told state (word_refuses bytes note old read in_bytes state is i at.0 at.1 l r (why refused) h))),
+          ));
+      other_run = λ long other. absurd (of_own_run old.run note bytes (subst (λ (x : ℕ). x < 2 ^ 64) same_run small) read other);
+    }
 
 pub returns-in-Err : goal.returns-in-Err
 returns-in-Err c =
@@ -66,77 +98,38 @@ returns-in-Request c =
     let old = c.args.self.now in
     let new = c.take_word.new.self in
     let r = c.take_word.result in
-    let note = c.in-Ok.note in
     let i = c.in-Some.i in
-    let place = c.in-Some.ensures.0 in
-    let l = letter.Request c.open.result in
-    let in_bytes : IsInBytes note = search rules in
-    let read : c.args.bytes.now ≡ bytes_in_run c.args.self.now.run note = c.in-Ok.ensures.note ∙ ap (λ (run : ℕ). bytes_in_run run note) c.run.ensures in
-    let small_there : c.run.result < 2 ^ 64 = search rules in
-    let small : c.args.self.now.run < 2 ^ 64 = subst (λ (run : ℕ). run < 2 ^ 64) c.run.ensures small_there in
+    let did = c.take_word.ensures in
+    let in_bytes : IsInBytes c.in-Ok.note = search rules in
+    let small : c.run.result < 2 ^ 64 = search rules in
     let fits : SFits w64 r = search rules in
-    subst (λ (r : ℤ). TakesOrRefuses c.args.bytes.now r old new) (sym (to_z-of_z w64 r fits)) (record {
-      outcome = done_or r _ _
-          (λ zero. (zero, (i, l, word_takes c.args.bytes.now note i old new read place l c.in-Request.is (c.open.ensures ∙ sym place) refl (c.take_word.ensures.done zero))))
-          c.take_word.ensures.negative
-          (λ refused state is. (
-            c.take_word.ensures.refused refused,
-            place_refuses c.args.bytes.now note old read in_bytes state is i place c.in-Some.ensures.1 r
-                (λ h. subst (λ (t : Told). ToldRefuses i note.edge t r state old) (sym c.in-Request.is)
-                (subst (λ (e : ℕ). WordRefuses i (letter.Request e) r state old) c.open.ensures
-                (word_refuses c.args.bytes.now note old read in_bytes state is i place c.in-Some.ensures.1 l r (c.take_word.ensures.why refused) h))),
-          ));
-      other_run = λ long other. absurd (of_own_run c.args.self.now.run note c.args.bytes.now small read other);
-    })
+    subst (λ (r : ℤ). TakesOrRefuses c.args.bytes.now r old new) (sym (to_z-of_z w64 r fits))
+    (word_outcome c.args.bytes.now old new c.run.result c.in-Ok.note i (letter.Request c.open.result) r c.run.ensures c.in-Ok.ensures.note in_bytes small c.in-Some.ensures
+    c.in-Request.is (c.open.ensures ∙ sym c.in-Some.ensures.0) refl (λ state w. subst (λ (e : ℕ). WordRefuses i (letter.Request e) r state old) c.open.ensures w)
+    did.done did.refused did.negative did.why)
 
 pub returns-in-Done : goal.returns-in-Done
 returns-in-Done c =
     let old = c.args.self.now in
     let new = c.take_word-in-Done.new.self in
     let r = c.take_word-in-Done.result in
-    let note = c.in-Ok.note in
-    let i = c.in-Some.i in
-    let place = c.in-Some.ensures.0 in
-    let in_bytes : IsInBytes note = search rules in
-    let read : c.args.bytes.now ≡ bytes_in_run c.args.self.now.run note = c.in-Ok.ensures.note ∙ ap (λ (run : ℕ). bytes_in_run run note) c.run.ensures in
-    let small_there : c.run.result < 2 ^ 64 = search rules in
-    let small : c.args.self.now.run < 2 ^ 64 = subst (λ (run : ℕ). run < 2 ^ 64) c.run.ensures small_there in
+    let did = c.take_word-in-Done.ensures in
+    let in_bytes : IsInBytes c.in-Ok.note = search rules in
+    let small : c.run.result < 2 ^ 64 = search rules in
     let fits : SFits w64 r = search rules in
-    subst (λ (r : ℤ). TakesOrRefuses c.args.bytes.now r old new) (sym (to_z-of_z w64 r fits)) (record {
-      outcome = done_or r _ _
-          (λ zero. (zero, (i, letter.Done, word_takes c.args.bytes.now note i old new read place letter.Done c.in-Done.is tt refl (c.take_word-in-Done.ensures.done zero))))
-          c.take_word-in-Done.ensures.negative
-          (λ refused state is. (
-            c.take_word-in-Done.ensures.refused refused,
-            place_refuses c.args.bytes.now note old read in_bytes state is i place c.in-Some.ensures.1 r
-                (λ h. subst (λ (t : Told). ToldRefuses i note.edge t r state old) (sym c.in-Done.is)
-                (word_refuses c.args.bytes.now note old read in_bytes state is i place c.in-Some.ensures.1 letter.Done r (c.take_word-in-Done.ensures.why refused) h)),
-          ));
-      other_run = λ long other. absurd (of_own_run c.args.self.now.run note c.args.bytes.now small read other);
-    })
+    subst (λ (r : ℤ). TakesOrRefuses c.args.bytes.now r old new) (sym (to_z-of_z w64 r fits))
+    (word_outcome c.args.bytes.now old new c.run.result c.in-Ok.note c.in-Some.i letter.Done r c.run.ensures c.in-Ok.ensures.note in_bytes small c.in-Some.ensures
+    c.in-Done.is tt refl (λ state w. w) did.done did.refused did.negative did.why)
 
 pub returns-in-Close : goal.returns-in-Close
 returns-in-Close c =
     let old = c.args.self.now in
     let new = c.take_word-in-Close.new.self in
     let r = c.take_word-in-Close.result in
-    let note = c.in-Ok.note in
-    let i = c.in-Some.i in
-    let place = c.in-Some.ensures.0 in
-    let in_bytes : IsInBytes note = search rules in
-    let read : c.args.bytes.now ≡ bytes_in_run c.args.self.now.run note = c.in-Ok.ensures.note ∙ ap (λ (run : ℕ). bytes_in_run run note) c.run.ensures in
-    let small_there : c.run.result < 2 ^ 64 = search rules in
-    let small : c.args.self.now.run < 2 ^ 64 = subst (λ (run : ℕ). run < 2 ^ 64) c.run.ensures small_there in
+    let did = c.take_word-in-Close.ensures in
+    let in_bytes : IsInBytes c.in-Ok.note = search rules in
+    let small : c.run.result < 2 ^ 64 = search rules in
     let fits : SFits w64 r = search rules in
-    subst (λ (r : ℤ). TakesOrRefuses c.args.bytes.now r old new) (sym (to_z-of_z w64 r fits)) (record {
-      outcome = done_or r _ _
-          (λ zero. (zero, (i, letter.Close, word_takes c.args.bytes.now note i old new read place letter.Close c.in-Close.is tt refl (c.take_word-in-Close.ensures.done zero))))
-          c.take_word-in-Close.ensures.negative
-          (λ refused state is. (
-            c.take_word-in-Close.ensures.refused refused,
-            place_refuses c.args.bytes.now note old read in_bytes state is i place c.in-Some.ensures.1 r
-                (λ h. subst (λ (t : Told). ToldRefuses i note.edge t r state old) (sym c.in-Close.is)
-                (word_refuses c.args.bytes.now note old read in_bytes state is i place c.in-Some.ensures.1 letter.Close r (c.take_word-in-Close.ensures.why refused) h)),
-          ));
-      other_run = λ long other. absurd (of_own_run c.args.self.now.run note c.args.bytes.now small read other);
-    })
+    subst (λ (r : ℤ). TakesOrRefuses c.args.bytes.now r old new) (sym (to_z-of_z w64 r fits))
+    (word_outcome c.args.bytes.now old new c.run.result c.in-Ok.note c.in-Some.i letter.Close r c.run.ensures c.in-Ok.ensures.note in_bytes small c.in-Some.ensures
+    c.in-Close.is tt refl (λ state w. w) did.done did.refused did.negative did.why)

@@ -1,0 +1,77 @@
+"""What the measures share: their arguments, how programs are built and called, loops that count, and tables."""
+import contextlib
+import re
+import statistics
+import subprocess
+import sys
+from pathlib import Path
+
+# Where the package `lib` is.
+sys.path.insert(0, f"{Path(__file__).resolve().parents[1]}/tools")
+from lib.arguments import Arguments
+from lib.crates import program_of
+from lib.files import HOME
+from lib.process import BOUND
+
+# The number in the middle, which is one of them.
+middle = statistics.median_high
+
+
+def arguments_of(text, **numbers):
+    """Returns the arguments of a measure: its text, and numbers, with what is taken if none is said, and what it is."""
+    it = Arguments(text)
+    for name, (default, what) in numbers.items():
+        it.add_argument(f"--{name}", type=int, default=default, metavar="N", help=f"{what}; {default}")
+    return it
+
+
+def built(crate):
+    """Has tools/build prove and build a program of ours, and returns it."""
+    subprocess.run([f"{HOME}/tools/build", crate], check=True)
+    return program_of(crate)
+
+
+@contextlib.contextmanager
+def loops(count):
+    """Has this number of processes count while the body is done."""
+    started = [subprocess.Popen([*BOUND, sys.executable, "-c", "while True: pass"]) for _ in range(count)]
+    try:
+        yield
+    finally:
+        for it in started:
+            it.kill()
+            it.wait()
+
+
+def counts_of(command, plan):
+    """Runs a command on a plan, and returns the numbers that it prints as name=number."""
+    ran = subprocess.run(command, input=plan, stdout=subprocess.PIPE, stderr=subprocess.PIPE, check=True)
+    found = re.findall(r"(\w+)=(\d+(?:\.\d+)?)\b", (ran.stdout + ran.stderr).decode())
+    return {name: float(count) if "." in count else int(count) for name, count in found}
+
+
+def times_of(commands, plan, rounds, told="median"):
+    """Runs the commands in turn on a plan, and returns the milliseconds that each told in each round, by its name."""
+    times = {name: [] for name in commands}
+    for name in [*commands] * rounds:
+        times[name].append(counts_of(commands[name], plan)[told] / 1000)
+    return times
+
+
+def ratio(times, one, other):
+    """Returns the ratio of two times of one round, of the round in the middle."""
+    return middle([a / b for a, b in zip(times[one], times[other])])
+
+
+def shown(number):
+    """Returns a number with three digits that count, and no fewer than those before the point."""
+    return f"{number:.2f}" if number < 10 else f"{number:.1f}" if number < 100 else f"{number:,.0f}"
+
+
+def line(*cells):
+    print(f"| {' | '.join(cells)} |", flush=True)
+
+
+def begin_table(*headings):
+    line(*headings)
+    print(f"|{'---|' * len(headings)}", flush=True)

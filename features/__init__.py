@@ -1,0 +1,1 @@
+"""What `./dine explain` and `./show` do, as far as no crate does it."""

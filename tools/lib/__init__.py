@@ -1,0 +1,1 @@
+"""What tools/, tests/, bench/ and features/ share, a module for each subject."""
