@@ -252,7 +252,7 @@ def test_crate_that_is_not_proved(place):
     assert all(it.startswith("FAILED: numbers itself is not proved") for it in lines.values())
 
 
-@pytest.mark.timeout(900)
+@pytest.mark.timeout(3000)
 def test_by_the_prover(tmp_path):
     mutants = {"one_is_wrong": ("    1", "    4 - 4"), "two_is_right": ("    number + 1", "    1 + number"),
                "three_is_broken": ("    3", "    3 +")}
