@@ -92,6 +92,19 @@ def test_export(tmp_path):
     assert len(rows) > 300 and set(rows) <= set(shown) and {"run", "order", "KeepsStreamsAt"} <= set(shown)
 
 
+@pytest.mark.slow
+@pytest.mark.parametrize(("path", "old", "new", "cited"), [
+    (HEADLINE, "^use", "use Rattle.dine_rules.proofs.links.Coming.{any}\n\\g<0>", "links.Coming of dine_rules"),
+    ("crates/dine_site_core/src/site/marked.rt", "dine_set::proofs::shared::", "dine_set::proofs::",
+     "MarksOf.marks_laws of dine_set"),
+])
+def test_citation_across_crates(planted, path, old, new, cited):
+    """tools/pages finds it with its line, and no other one."""
+    line = 1 + re.split(old, text_of(path), maxsplit=1, flags=re.M)[0].count("\n")
+    said, output = "which is not in its proofs/shared/", planted(path, old, new)("pages").output
+    assert f"pages: {path}:{line}: cites {cited}, {said}\n" in output and output.count(said) == 1
+
+
 def test_export_that_cannot_be_written():
     ran = answer_of(["--export", "/no/such/folder/page.html"], f"{HOME}/tools/believe")
     assert (ran.status, ran.output) == (1, "")

@@ -20,7 +20,7 @@ from lib import bindings
 from lib.files import HOME, text_of
 from lib.process import Answer, answer_of
 
-pytestmark = pytest.mark.timeout(900)
+pytestmark = pytest.mark.timeout(3000)
 PLANS = ("plans/pair.toml", "plans/ring_of_five.toml", "plans/resigning_site.toml", "tests/cases/values.toml",
          "tests/cases/triangle.toml")
 # How many lists of choices are replayed of each plan.

@@ -8,6 +8,7 @@ from calls import blocks
 from lib.crates import add_program
 from lib.files import HOME
 from lib.process import Answer, answer_of
+from lib.unproved import answer_of_try
 
 pytestmark = pytest.mark.early
 VENDOR = f"{HOME}/tools/vendor"
@@ -41,12 +42,12 @@ def test_build_of_a_new_repository(repository):
 
 @pytest.mark.kit
 @pytest.mark.slow
-@pytest.mark.timeout(1000)
+@pytest.mark.timeout(3000)
 @pytest.mark.parametrize("number", range(len(PROGRAMS)))
 def test_program(repository, number):
     (source, prints), name = PROGRAMS[number], f"program_{number + 1}"
     mine = add_program(name, "may_wait=1: dine_run anyhow", source, repository)
-    ran = answer_of(["try", name], "rt", seconds=900, cwd=mine)
+    ran = answer_of_try([name], mine)
     # After the output of the program, rt says how it ended.
     assert (ran.status, ran.output.partition("checked: ")[0]) == (0, prints), ran.error
 

@@ -5,10 +5,10 @@ large."""
 import pytest
 from lib.crates import add_program, copy_crates
 from lib.files import text_of
-from lib.process import answer_of
+from lib.unproved import answer_of_try
 
 # The program runs once, for all tests.
-pytestmark = [pytest.mark.kit, pytest.mark.early, pytest.mark.slow, pytest.mark.timeout(1200),
+pytestmark = [pytest.mark.kit, pytest.mark.early, pytest.mark.slow, pytest.mark.timeout(3000),
               pytest.mark.xdist_group("library calls")]
 
 ONE_JOB = """hungry 0 1
@@ -144,7 +144,7 @@ def printed(tmp_path_factory):
     copy_crates("dine_run", folder)
     line = "may_wait=1: dine_run anyhow"
     crate = add_program("library_calls", line, text_of("tests/library_calls.rt.in"), folder)
-    ran = answer_of(["try", "--seconds", "600"], "rt", None, cwd=crate)
+    ran = answer_of_try(["--seconds", "600"], crate)
     assert ran.status == 0, ran.error
     # After the output of the program, rt says how it ended.
     parts = ("\n" + ran.output.partition("checked: ")[0]).split("\n# ")[1:]

@@ -12,7 +12,7 @@ import pytest
 from lib.crates import add_program, copy_crates
 from lib.files import text_of
 from lib.graphs import graph_of, plan_of
-from lib.process import answer_of
+from lib.unproved import answer_of_try
 
 # All runs are done by one process, for all tests.
 pytestmark = [pytest.mark.kit, pytest.mark.slow, pytest.mark.xdist_group("many runs")]
@@ -49,7 +49,7 @@ def wrong(tmp_path_factory, request):
     # The threads that count begin before the first busy run, and stay.
     runs.sort(key=lambda it: it[0] == "busy")
     given = b"---\n".join(f"{links} 1 {kind} {manner}\n".encode() + PLANS[name] for kind, manner, links, name in runs)
-    answer = answer_of(["try", "--seconds", str(300 + 8 * rounds)], "rt", None, input=given, cwd=crate)
+    answer = answer_of_try(["--seconds", str(300 + 8 * rounds)], crate, given)
     found = re.findall(r"^(\d+) \d+ \d+$", answer.output, re.M)
     assert (answer.status, len(found)) == (0, len(runs)), answer.error
     counts = collections.Counter()

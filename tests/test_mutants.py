@@ -76,8 +76,8 @@ class Place:
         folder = self.home / "crates/numbers/mutants"
         for it in folder.iterdir():
             it.unlink()
-        for name, (old, new) in mutants.items():
-            (folder / f"{name}.edit").write_text(f"file: src/lib.rt\nold: {old}\nnew: {new}\n")
+        for name, (old, new, *more) in mutants.items():
+            (folder / f"{name}.edit").write_text("".join([f"file: src/lib.rt\nold: {old}\nnew: {new}\n", *more]))
         ran = subprocess.run([self.home / "tools/mutants", *words], env=self.how, capture_output=True, text=True,
                              check=False)
         *lines, last = ran.stdout.splitlines() or [ran.stderr]
@@ -152,6 +152,27 @@ def test_others_have_a_check_of_their_own(place, old, new, only):
     place.tries({**WRONG, "other": (old, new)}, "--lanes", "1")
     checks = place.checks()
     assert checks[:2] == ["all: ", "one,three: one,three"] and checks[2].startswith(f"{only}: ")
+
+
+@pytest.mark.parametrize(("function", "checks"), [
+    ("three", ["one,three: one,three"]), ("one", ["one: one", "all: three"]),
+])
+def test_changed_proof_is_of_its_function(place, function, checks):
+    """One that changes the proof of another function than its own has a check of its own."""
+    path = f"proofs/{function}/Answers.antt"
+    (place.home / "crates/numbers" / path).parent.mkdir(parents=True)
+    (place.home / "crates/numbers" / path).write_text("-- proved\n")
+    more = f"file: {path}\nold: -- proved\nnew: -- not proved\n"
+    mutants = {**WRONG, "three_is_wrong": (*WRONG["three_is_wrong"], more)}
+    assert place.tries(mutants, "--lanes", "1")[::2] == (0, "2 passed, 0 failed")
+    assert place.checks()[1:] == checks
+
+
+def test_many_share_several_checks(place):
+    place.write("//! Numbers.\n" + "".join(f"pub fn f{it}() -> u32\n{{\n    {it} + 0\n}}\n" for it in range(31)))
+    mutants = {f"wrong_{it}": (f"    {it} + 0", f"    {it} /* wrong */") for it in range(31)}
+    assert place.tries(mutants, "--lanes", "1")[::2] == (0, "31 passed, 0 failed")
+    assert [it.count(",") // 2 + 1 for it in place.checks()] == [1, 30, 1]
 
 
 def test_names_of_functions(tmp_path):
@@ -231,7 +252,7 @@ def test_crate_that_is_not_proved(place):
     assert all(it.startswith("FAILED: numbers itself is not proved") for it in lines.values())
 
 
-@pytest.mark.timeout(900)
+@pytest.mark.timeout(3000)
 def test_by_the_prover(tmp_path):
     mutants = {"one_is_wrong": ("    1", "    4 - 4"), "two_is_right": ("    number + 1", "    1 + number"),
                "three_is_broken": ("    3", "    3 +")}

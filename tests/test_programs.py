@@ -430,7 +430,7 @@ ALLOCATING = [pytest.param(case, words, id=words) for case in CASES
 
 
 @slow
-@pytest.mark.timeout(600)
+@pytest.mark.timeout(3000)
 @pytest.mark.parametrize(("case", "words"), ALLOCATING)
 def test_refused_memory(clone, case, words):
     """Each allocation fails in turn, and each run ends with a result that tests/tables/refused_memory.toml allows."""

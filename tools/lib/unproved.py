@@ -1,17 +1,48 @@
-"""Builds a program without any proof, for a first look and for tools that try many programs. `rt try` compiles a
-program, runs it once and deletes it; here it is copied while it runs."""
+"""Runs and builds programs without any proof, for a first look and for tools that try many programs. `rt try` compiles
+a program, runs it once and deletes it. To build one, it is copied while it runs."""
 import contextlib
 import os
 import shutil
+import signal
 import subprocess
+import threading
 import time
 from pathlib import Path
 
-from lib.process import BOUND
+from lib.process import BOUND, Answer
 
 # The input while the program is caught: a plan whose one site is at work for a second or two.
 BUSY = 'version = 1\n[[site]]\nname = "a"\njobs = [' + '{ name = "x", turns = 1000000 }, ' * 30 + "]\n"
 RUN = {"dine_trace": "--run"}
+
+
+def end_hint(rt):
+    """Ends the check that `rt try`, this process, runs beside the try, for a hint that nobody reads here: it takes half
+    as long again. Returns whether it was there."""
+    with contextlib.suppress(OSError):
+        for child in Path(f"/proc/{rt}/task/{rt}/children").read_text("ascii").split():
+            if b"--start\0no function" in Path(f"/proc/{child}/cmdline").read_bytes():
+                os.kill(int(child), signal.SIGKILL)
+                return True
+    return False
+
+
+def answer_of_try(words, crate, given=b""):
+    """Runs `rt try` with arguments in the folder of a crate, and this on its standard input. Returns how it ended."""
+    is_over = threading.Event()
+
+    def watch(rt):
+        while not end_hint(rt) and not is_over.wait(0.1):
+            pass
+
+    how = {"stdin": subprocess.PIPE, "stdout": subprocess.PIPE, "stderr": subprocess.PIPE, "cwd": crate}
+    with subprocess.Popen([*BOUND, "rt", "try", *words], **how) as rt:
+        watcher = threading.Thread(target=watch, args=(rt.pid,))
+        watcher.start()
+        said = rt.communicate(given)
+        is_over.set()
+        watcher.join()
+    return Answer(rt.returncode, *(it.decode(errors="surrogateescape") for it in said))
 
 
 def catch(room):
@@ -36,7 +67,9 @@ def build_unproved(crate, to):
     how = {"cwd": crate, "env": {**os.environ, "TMPDIR": str(room)}, "start_new_session": True}
     with open(room / "plan", "rb") as plan, open(room / "said", "wb") as said:
         with subprocess.Popen(words, stdin=plan, stdout=said, stderr=said, **how) as ran:
+            has_hint = True
             while ran.poll() is None:
+                has_hint = has_hint and not end_hint(ran.pid)
                 catch(room)
                 time.sleep(0.02)
     text, is_caught = (room / "said").read_text("utf-8", "replace"), (room / "caught").exists()

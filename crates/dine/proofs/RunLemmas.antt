@@ -21,8 +21,8 @@ use Rattle.dine_threads.specs.Headline.{IsHeadline}
 use Rattle.dine_threads.specs.declared.tables.EdgeRow.{EdgeRow}
 use Rattle.dine_threads.specs.declared.tables.SiteRow.{SiteRow}
 use Rattle.dine_threads.specs.Tables.{due_edge_rows, due_site_rows, edge_row}
-use Rattle.dine_threads.proofs.all_sites.Rows.{edge_rows-due, headline_gathered, site_rows-due, values-due}
-use Rattle.dine_site.proofs.lists.Seen.{there_is}
+use Rattle.dine_threads.proofs.shared.all_sites.Rows.{edge_rows-due, headline_gathered, site_rows-due, values-due}
+use Rattle.dine_site.proofs.shared.lists.Seen.{there_is}
 use Rattle.dine.specs.PlanDiners.{IsDinerOf, SeenPlanDiner, fails_of, first_word, fits_marks, mark_of, plan_diner}
 use Rattle.dine.specs.Tables.{IsEdgeRowOf, IsSiteRowOf}
 use Rattle.dine.specs.Run.{HasDueRows, diner_of, diners_of, done_to_failed, failing_by_site, failing_jobs, meals_at}

@@ -5,7 +5,7 @@ use Rattle.std.proofs.lemmas.Option.{same_Some}
 use Rattle.dine_draft.specs.Refusals.{first_some, first_of_draft, on, site_refusals, end_refusals, pair_refusals, act_refusals, joined_by}
 use Rattle.dine_draft.specs.declared.plan_fault.PlanFault.{PlanFault}
 use Rattle.dine_draft.specs.declared.plan_fault.PlanFault.TheVariants as fault
-use Rattle.dine_draft.proofs.PlanLemmas.{first_of_groups}
+use Rattle.dine_draft.proofs.shared.PlanLemmas.{first_of_groups}
 use Rattle.dine_builder.specs.Draft.{Draft}
 use Rattle.dine_builder.specs.DraftPlan.{IsOfDraft, draft_of, first_fault_of}
 

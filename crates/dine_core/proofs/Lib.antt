@@ -1,2 +1,3 @@
+pub mod shared
 pub mod all_sites
 pub mod enabled_events

@@ -3,7 +3,6 @@ pub mod Shapes
 pub mod LinkNumbers
 pub mod LinkSteps
 pub mod MealFits
-pub mod OpenedSites
 pub mod WorldOpened
 pub mod GivenOutcomes
 pub mod CanHappen

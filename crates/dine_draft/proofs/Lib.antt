@@ -1,4 +1,1 @@
-pub mod ListLemmas
-pub mod NameLemmas
-pub mod Searches
-pub mod PlanLemmas
+pub mod shared

@@ -14,17 +14,17 @@ use std::fmt;
 /// holds.
 #[derive(Clone, Copy, Debug, PartialEq, Eq)]
 pub enum PlanFault {
-    /// The text is no TOML.
+    /// The text is no TOML, or no UTF-8.
     NotToml,
-    /// `version` is absent or is not the whole number 1 or 2.
+    /// The plan has no `version`, or one that is not the whole number 1 or 2.
     Version,
-    /// The document, a site, a job or an edge has a key that its version of the format does not name for it.
+    /// A table has a key that plans do not have there, or not in this version.
     UnknownKey,
     /// A site or a job has no `name`, or an edge no `ends`.
     MissingKey,
-    /// A value is of another kind than the format names for its key.
+    /// A value is of the wrong kind, such as a text for a number, or is a number below 0.
     WrongKind,
-    /// The name of this site, or of one of its jobs, is no name.
+    /// The name of this site, or of one of its jobs, is not 1 to 32 ASCII letters, digits, `_` or `-`.
     BadName(u32),
     /// An earlier site has the name of this site.
     SiteTwice(u32),
@@ -44,9 +44,9 @@ pub enum PlanFault {
     EdgeTwice(u32),
     /// There are more than 512 edges.
     TooManyEdges,
-    /// A job of this site both adds and sets.
+    /// A job of this site has both `add` and `set`.
     TwoActs(u32),
-    /// A job of this site adds or sets more than 1,000,000.
+    /// A job of this site has `add` or `set` above 1,000,000.
     ActTooLarge(u32),
     /// The value of this edge is above 1,000,000.
     ValueTooLarge(u32),

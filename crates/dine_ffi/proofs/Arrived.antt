@@ -6,7 +6,7 @@ use Rattle.dine_token.specs.declared.log_entry.Entry.{Entry}
 use Rattle.dine_token.specs.declared.log_entry.Entry.TheVariants.{Move}
 use Rattle.dine_token.specs.Fork.{SeenFork, location, other_end}
 use Rattle.dine_token.specs.Log.{is_dirty, location_of, meals_of}
-use Rattle.dine_token.proofs.Logs.{is_dirty-push_move, location_of-push_move, meals_of-push_move}
+use Rattle.dine_token.proofs.shared.Logs.{is_dirty-push_move, location_of-push_move, meals_of-push_move}
 use Rattle.dine_graph.specs.Plan.{SeenPlan, hi_of, job_count, lo_of, other_of, resigns, site_count}
 use Rattle.dine_rules.specs.declared.breach.Breach.{Breach}
 use Rattle.dine_rules.specs.declared.breach.Breach.TheVariants as breach
@@ -18,24 +18,24 @@ use Rattle.dine_rules.specs.Letters.{forks_among, forks_in, has_close, has_done}
 use Rattle.dine_rules.specs.Local.{LocalState, Traffic, edge_at, traffic_at}
 use Rattle.dine_rules.specs.Steps.{fork_with, hand_fork_at, opened_fork}
 use Rattle.dine_rules.specs.Streams.{KeepsStreamsAt}
-use Rattle.dine_rules.proofs.lists.Counting.{last_log_or-none}
-use Rattle.dine_rules.proofs.lists.Forks.{last_fork, logs_of-at}
-use Rattle.dine_rules.proofs.one_place.Hands.{with_meals}
-use Rattle.dine_rules.proofs.one_place.Owned.{own_is}
-use Rattle.dine_rules.proofs.one_place.Placed.{IsPlaced, placed}
-use Rattle.dine_rules.proofs.one_place.Sent.{meals_of-with_meals_other}
-use Rattle.dine_rules.proofs.one_site.BreachLaw.{no_breach}
+use Rattle.dine_rules.proofs.shared.lists.Counting.{last_log_or-none}
+use Rattle.dine_rules.proofs.shared.lists.Forks.{last_fork, logs_of-at}
+use Rattle.dine_rules.proofs.shared.one_place.Hands.{with_meals}
+use Rattle.dine_rules.proofs.shared.one_place.Owned.{own_is}
+use Rattle.dine_rules.proofs.shared.one_place.Placed.{IsPlaced, placed}
+use Rattle.dine_rules.proofs.shared.one_place.Sent.{meals_of-with_meals_other}
+use Rattle.dine_rules.proofs.shared.one_site.BreachLaw.{no_breach}
 use Rattle.dine_site_core.specs.declared.site.places.Place.{Place}
 use Rattle.dine_site_core.specs.Core.{kept_at as place_kept}
 use Rattle.dine_site_core.specs.Places.{is_held, neighbour_of, no_place, place_at}
-use Rattle.dine_site_core.proofs.one_site.Eating.{slot_held}
+use Rattle.dine_site_core.proofs.shared.one_site.Eating.{slot_held}
 use Rattle.dine_wire.specs.Arrivals.{CarriesOn, DoesNotArrive, IsOfPlan, carried_on}
 use Rattle.dine_wire.specs.Carried.{GoesOn, IsCarriedOn, fork_for_next}
 use Rattle.dine_wire.specs.Notes.{fork_note}
 use Rattle.dine_wire.specs.declared.note.ForkNote.{ForkNote}
 use Rattle.dine_wire.specs.declared.wire_fault.WireFault.{WireFault}
 use Rattle.dine_wire.specs.declared.wire_fault.WireFault.TheVariants as fault
-use Rattle.dine_wire.proofs.CarriedForks.{of_plan}
+use Rattle.dine_wire.proofs.shared.CarriedForks.{of_plan}
 use Rattle.dine_ffi.specs.Answers.{wire_status}
 use Rattle.dine_ffi.specs.OwnSites.{ForEachFork, ForkRefuses, IsForkToTake, SeenOwnSite, StandsFor}
 use Rattle.dine_ffi.specs.Shelves.{AwaitsFork, IsForkBreach, IsNotTakenBack, kept_at}

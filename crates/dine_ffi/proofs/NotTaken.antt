@@ -12,7 +12,7 @@ use Rattle.dine_wire.specs.Runs.{IsNoLetter, bytes_in_run, is_of_run}
 use Rattle.dine_wire.specs.declared.note.Note.{Note}
 use Rattle.dine_wire.specs.declared.wire_fault.WireFault.{WireFault}
 use Rattle.dine_wire.specs.declared.wire_fault.WireFault.TheVariants as fault
-use Rattle.dine_wire.proofs.LettersOfRuns.{is_of_own}
+use Rattle.dine_wire.proofs.shared.LettersOfRuns.{is_of_own}
 use Rattle.dine_ffi.specs.Answers.{IsDoneOr, IsRefused, breach_status, done, other_edge}
 use Rattle.dine_ffi.specs.OwnSites.{IsEdgeOfNone, SeenOwnSite, StandsFor, TakeRefuses, ToldRefuses, WordRefuses}
 

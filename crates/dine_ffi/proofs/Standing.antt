@@ -16,16 +16,16 @@ use Rattle.dine_rules.specs.Local.{LocalState, Traffic, edge_at, is_eating, is_t
 use Rattle.dine_rules.specs.Steps as step
 use Rattle.dine_rules.specs.Steps.{Step, after, may, opened_fork, with_put}
 use Rattle.dine_rules.specs.Streams.{KeepsStreams}
-use Rattle.dine_rules.proofs.links.Eaters.{start_eats_with_all, step_eats_with_all}
-use Rattle.dine_rules.proofs.lists.Counting.{forks_in-append}
-use Rattle.dine_rules.proofs.one_site.Site.{start_keeps}
+use Rattle.dine_rules.proofs.shared.links.Eaters.{start_eats_with_all, step_eats_with_all}
+use Rattle.dine_rules.proofs.shared.lists.Counting.{forks_in-append}
+use Rattle.dine_rules.proofs.shared.one_site.Site.{start_keeps}
 use Rattle.dine_site_core.specs.Core.{Refines, forks_in_hand}
 use Rattle.dine_site_core.specs.Places.{IsMealOf}
 use Rattle.dine_site_core.specs.Standing.{CorePuts, CoreStep, CoreSteps, all_places}
 use Rattle.dine_core.specs.WorldSites.{meal_of}
-use Rattle.dine_core.proofs.all_sites.OpenedSites.{meal-taken, meal_is, within_of}
+use Rattle.dine_core.proofs.shared.all_sites.OpenedSites.{meal-taken, meal_is, within_of}
 use Rattle.dine_wire.specs.Carried.{fork_for_next, kept_forks}
-use Rattle.dine_wire.proofs.CarriedGrowth.{kept-append, last_is_kept, none_is_kept}
+use Rattle.dine_wire.proofs.shared.CarriedGrowth.{kept-append, last_is_kept, none_is_kept}
 use Rattle.dine_ffi.specs.Acts.{put_step as step_of_put}
 use Rattle.dine_ffi.specs.OwnSites.{IsOpened, IsShelfOf, OwnStep, OwnSteps, SeenOwnSite, SiteBegins, SiteEnds, SitePuts, SiteSteps, SiteTakes, StandsFor}
 use Rattle.dine_ffi.specs.Shelves.{first_kept, kept_at, put_away}

@@ -6,7 +6,7 @@ use Rattle.std.proofs.lemmas.Option.{none-some, same_Some, slice_get_within}
 use Rattle.std.proofs.lemmas.Simd.{map-map}
 use Rattle.dine_token.specs.Lawful.{count_from}
 use Rattle.dine_graph.specs.Plan.{SeenPlan, job_count, resigns, site_count}
-use Rattle.dine_site.proofs.lists.Seen.{there_is}
+use Rattle.dine_site.proofs.shared.lists.Seen.{there_is}
 use Rattle.dine_site.specs.CallLogs.{SeenCallLog, no_calls}
 use Rattle.dine_site.specs.Diners.{HasLastFailed, ObeysFailures, meals_called}
 use Rattle.dine_site.specs.declared.diner.Call.{Call}

@@ -4,7 +4,7 @@ use Rattle.std.proofs.lemmas.Option.{get_or_from_slice_get, none-some, same_Some
 use Rattle.dine_token.specs.Fork.{SeenFork}
 use Rattle.dine_token.specs.Meal.{SeenMeal}
 use Rattle.dine_graph.specs.Plan.{SeenPlan, edge_count, edges_of}
-use Rattle.dine_graph.proofs.PlaceLemmas.{positions_within}
+use Rattle.dine_graph.proofs.shared.PlaceLemmas.{positions_within}
 use Rattle.dine_site.specs.WholeMeals.{IsWholeIn, edge_of}
 
 -- what stands at a place, of a list that is made of another

@@ -1,5 +1,5 @@
+pub mod shared
 mod Outcomes
 mod Sets
 mod Placing
 mod Answering
-pub mod Shown

@@ -11,11 +11,11 @@ use Rattle.dine_graph.specs.Plan.{SeenJob, SeenSite}
 use Rattle.dine_draft.specs.Draft.{SeenDraft, names_of}
 use Rattle.dine_draft.specs.Refusals.{first_some}
 use Rattle.dine_draft.specs.declared.drafts.DraftEdge.{DraftEdge}
-use Rattle.dine_draft.proofs.ListLemmas.{list_any_false_at, position_none}
+use Rattle.dine_draft.proofs.shared.ListLemmas.{list_any_false_at, position_none}
 use Rattle.dine_reader.specs.Document.{is_second, sites_in, edges_in, jobs_in, text_at, items_at, number_at, has_key, has_both, has_two_acts, has_other_policy}
 use Rattle.dine_reader.specs.RefusalFacts.{no_table}
 use Rattle.dine_reader.specs.RefusalTests.{is_table, is_text, is_tables, is_two_texts, document_keys, site_keys, job_keys, edge_keys, has_other_key, lacks_key, is_wrong, form_refusals, refuses_version, site_has_other_key, refuses_unknown_key, site_lacks_key, refuses_missing_key, job_is_wrong, site_is_wrong, edge_is_wrong, refuses_wrong_kind}
-use Rattle.dine_reader.proofs.DocumentLemmas.{list_of-items_of}
+use Rattle.dine_reader.proofs.shared.DocumentLemmas.{list_of-items_of}
 use Rattle.dine_plan.specs.DraftDocument.{job_members_with, job_table, site_table, edge_table, policy_word, document_of}
 
 -- what no table of a list passes, and what each of them passes

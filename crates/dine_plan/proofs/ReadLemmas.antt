@@ -13,18 +13,18 @@ use Rattle.dine_token.specs.declared.act.Act.{Act}
 use Rattle.dine_token.specs.declared.act.Act.TheVariants.{Add, Set}
 use Rattle.dine_token.specs.Values.{amount_of}
 use Rattle.dine_graph.specs.Plan.{SeenJob, SeenSite, SeenPlan, no_site, no_job, is_name}
-use Rattle.dine_graph.proofs.ListLemmas.{position_none_at}
+use Rattle.dine_graph.proofs.shared.ListLemmas.{position_none_at}
 use Rattle.dine_draft.specs.Draft.{SeenDraft, names_of, ends_of_edge, plan_of}
 use Rattle.dine_draft.specs.Refusals.{first_some, first_of_draft, first_twice, site_refusals, end_refusals, pair_refusals, act_refusals, is_unnamed, is_long, is_large, is_one_site, has_bad_name, has_many_jobs, has_many_turns, has_unknown_end, joined_by, is_loop, has_large_act, has_large_value}
 use Rattle.dine_draft.specs.declared.drafts.DraftEdge.{DraftEdge}
 use Rattle.dine_draft.specs.declared.plan_fault.PlanFault.{PlanFault}
-use Rattle.dine_draft.proofs.ListLemmas.{list_any-map, list_any_false_at, position-map, first_twice_none_apart}
-use Rattle.dine_draft.proofs.PlanLemmas.{AreSites, are_sites, are_ends, are_acts, first_of_groups, option_or_none}
+use Rattle.dine_draft.proofs.shared.ListLemmas.{list_any-map, list_any_false_at, position-map, first_twice_none_apart}
+use Rattle.dine_draft.proofs.shared.PlanLemmas.{AreSites, are_sites, are_ends, are_acts, first_of_groups, option_or_none}
 use Rattle.dine_reader.specs.Document.{text_at, items_at, number_at, turns_in, has_key, fails_in, act_in, resigns_in, version_in, end_in}
 use Rattle.dine_reader.specs.PlanOf.{draft_of as draft_read, job_in, site_in, edge_in, number_of, plan_of_document, IsPlanOf}
 use Rattle.dine_reader.specs.RefusalFacts.{no_edge}
 use Rattle.dine_reader.specs.RefusalTests.{fault_of, first_fault}
-use Rattle.dine_reader.proofs.DocumentLemmas.{list_of-items_of, first_of_document}
+use Rattle.dine_reader.proofs.shared.DocumentLemmas.{list_of-items_of, first_of_document}
 use Rattle.dine_builder.specs.Draft.{Draft}
 use Rattle.dine_builder.specs.DraftPlan.{draft_of, first_fault_of, plan_of_draft}
 use Rattle.dine_plan.specs.DraftDocument.{Says, job_table, site_table, edge_table, end_name, policy_word, document_of}

@@ -1,4 +1,4 @@
-pub mod DocumentLemmas
+pub mod shared
 pub mod FirstLemmas
 pub mod FormLemmas
 pub mod IndexLemmas

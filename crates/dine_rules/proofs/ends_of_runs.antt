@@ -1,6 +1,2 @@
--- Ends of runs: if no event is enabled, all meals are eaten, all links are closed, and each log is whole.
-pub mod Stuck
-pub mod Finishing
-pub mod Complete
+-- Ends of runs: how many events lead there.
 pub mod RunCounts
-pub mod ForkLogs

@@ -1,11 +1,8 @@
--- Journals: the states that they lead through, and the orders that put them together.
+-- Journals: how they grow, and the orders that put them together.
 pub mod Parts
-pub mod JournalStates
 pub mod Growing
 pub mod Waiting
 pub mod OneOrder
-pub mod OtherOutcomes
-pub mod Shown
 pub mod EatingApart
 pub mod Going
 pub mod Asked

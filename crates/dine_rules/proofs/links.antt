@@ -1,13 +1,3 @@
--- All sites of a reached world: the letters between two ends, one fork and one token for each edge, and the next
--- letter.
-pub mod Across
-pub mod WorldStreams
+-- All sites of a reached world: what each step keeps, and the next letter to a site.
 pub mod EachSite
-pub mod Joined
-pub mod Links
-pub mod EdgeSums
-pub mod Near
 pub mod Coming
-pub mod NextLetters
-pub mod Eaters
-pub mod EatersApart

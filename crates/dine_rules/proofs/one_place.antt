@@ -1,11 +1,3 @@
--- One place of a site: which edge is there, the fork and the token, the log in hand, and the letters that were put and
--- taken.
-pub mod Placed
-pub mod Hands
-pub mod Owned
-pub mod Values
-pub mod HandForks
+-- One place of a site: its fork and its token over plain numbers, and the chain of the logs put and taken.
 pub mod Held
 pub mod Chains
-pub mod Sent
-pub mod Keeping

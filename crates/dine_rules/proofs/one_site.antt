@@ -1,13 +1,7 @@
--- One site: all its places, what each of its steps keeps, and how many letters it puts and takes.
-pub mod Site
-pub mod Shapes
+-- One site: how many letters it puts and takes, what it offers to the other ends, and how long an asker waits.
 pub mod Offers
-pub mod SiteSteps
-pub mod InHand
-pub mod InOrder
 pub mod PutBounds
 pub mod TakenBounds
 pub mod CutShort
 pub mod Askers
 pub mod FirstBreach
-pub mod BreachLaw

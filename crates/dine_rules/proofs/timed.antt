@@ -2,4 +2,3 @@
 pub mod Merging
 pub mod Counts
 pub mod Orders
-pub mod OrdersShown

@@ -6,7 +6,8 @@ ghost use Rattle.std.specs.Prelude.{◌≡◌};
 pub enum Breach {
     /// A letter after Close.
     AfterClose,
-    /// A Request that the other end cannot have sent in turn.
+    /// A Request while the fork is away or the token is here, or after Done, or of another edge, or from a site that
+    /// ate all its meals.
     RequestOutOfTurn,
     /// A Fork, although the fork or the token is here.
     ForkOutOfTurn,

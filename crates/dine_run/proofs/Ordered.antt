@@ -22,11 +22,11 @@ use Rattle.dine_link.specs.Links.{SeenLink}
 use Rattle.dine_threads.specs.Gathered.{high_traffic, low_traffic, traffic_of}
 use Rattle.dine_threads.specs.Headline as headline_specs
 use Rattle.dine_threads.specs.Headline.{IsHeadline, IsTheFork, ate_of}
-use Rattle.dine_rules.proofs.journals.OtherOutcomes.{plan-stays, states-stay}
+use Rattle.dine_rules.proofs.shared.journals.OtherOutcomes.{plan-stays, states-stay}
 use Rattle.dine_rules.specs.Shown.{plan_shown, shown_by}
-use Rattle.dine_rules.proofs.journals.Shown.{fail_as_shown, sites_shown}
-use Rattle.dine_order.proofs.Shown.{fork_shown}
-use Rattle.dine_threads.proofs.all_sites.Ordered.{none_must, of_high, of_low, state_is, states_after, traffic_is}
+use Rattle.dine_rules.proofs.shared.journals.Shown.{fail_as_shown, sites_shown}
+use Rattle.dine_order.proofs.shared.Shown.{fork_shown}
+use Rattle.dine_threads.proofs.shared.all_sites.Ordered.{none_must, of_high, of_low, state_is, states_after, traffic_is}
 use Rattle.dine_threads.specs.Journals.{AreJournals, states_left}
 
 -- what the laws say of the places of edges, of journals and of logs, as they are called

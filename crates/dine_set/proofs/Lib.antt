@@ -1,3 +1,2 @@
-pub mod MarksOf
-pub mod NthPosition
+pub mod shared
 pub mod WordMarks

@@ -1,4 +1,2 @@
--- Lists of which one element is read, written or replaced.
-pub mod Lists
-pub mod Seen
+-- Lists of which one element is replaced.
 pub mod Replaced

@@ -1,3 +1,3 @@
-pub mod lists
+pub mod shared
 pub mod one_site
 pub mod own_events

@@ -1,12 +1,3 @@
--- One core: its places represent a state, each test and each step for the state's, and a breach for the first by the
--- whole lists.
-pub mod PlacesAfter
-pub mod Stands
+-- One core: what is kept at its places stays sound, and its steps keep the streams.
 pub mod Sound
-pub mod Opened
-pub mod Degrees
-pub mod SiteTests
 pub mod CoreSteps
-pub mod Breaches
-pub mod Eating
-pub mod Ending

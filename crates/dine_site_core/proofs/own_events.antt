@@ -1,7 +1,4 @@
--- What a core may do by itself and what it waits for, by the sets that it keeps.
+-- What a core may do by itself, by the sets that it keeps of its places.
 pub mod Marked
 pub mod MarkedEvents
-pub mod NextEvents
 pub mod OwnEvents
-pub mod WantsByLists
-pub mod Unwanted

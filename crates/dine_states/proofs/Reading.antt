@@ -19,8 +19,8 @@ use Rattle.dine_core.specs.declared.world.whereabouts.Whereabouts.{Whereabouts}
 use Rattle.dine_core.specs.declared.world.whereabouts.Whereabouts.TheVariants.{At, To}
 use Rattle.dine_core.specs.Whereabouts.{IsEndOf, IsThere, ReportsWhere, at_place, forks_at, holds_dirty, is_fork_dirty, is_place}
 use Rattle.dine_core.specs.Worlds.{IsReached}
-use Rattle.dine_rules.proofs.links.EdgeSums.{one_fork_of_edge, one_token_of_edge}
-use Rattle.dine_rules.proofs.links.WorldStreams.{WorldKeeps, reached_kept}
+use Rattle.dine_rules.proofs.shared.links.EdgeSums.{one_fork_of_edge, one_token_of_edge}
+use Rattle.dine_rules.proofs.shared.links.WorldStreams.{WorldKeeps, reached_kept}
 use Rattle.dine_states.specs.Ends.{IsEnd, is_at, is_going_to}
 use Rattle.dine_states.specs.declared.ends.End.{End}
 use Rattle.dine_states.proofs.Orders.{same}

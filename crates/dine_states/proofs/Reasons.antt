@@ -23,8 +23,8 @@ use Rattle.dine_rules.specs.Steps as step
 use Rattle.dine_rules.specs.Streams.{KeepsStreams, is_orderly}
 use Rattle.dine_rules.specs.World.{WorldState, is_enabled, local_after, next_letter, put_to, state_of, step_of}
 use Rattle.dine_core.specs.Worlds.{IsReached}
-use Rattle.dine_rules.proofs.links.NextLetters.{in_order, reached_allowed}
-use Rattle.dine_rules.proofs.links.WorldStreams.{reached_kept}
+use Rattle.dine_rules.proofs.shared.links.NextLetters.{in_order, reached_allowed}
+use Rattle.dine_rules.proofs.shared.links.WorldStreams.{reached_kept}
 use Rattle.dine_states.specs.declared.why.Reason.{Reason}
 use Rattle.dine_states.specs.declared.why.Reason.TheVariants.{NoEvent}
 use Rattle.dine_states.specs.Reasons.{holds, is_event, is_within, reasons_of, why_not}

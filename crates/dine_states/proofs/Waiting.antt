@@ -5,7 +5,7 @@ use Rattle.std.proofs.lemmas.Bool.{cond-false, cond-true, eqb-false, false≢tru
 use Rattle.std.proofs.lemmas.List.Elements.{filter-append}
 use Rattle.std.proofs.lemmas.List.FromFn.{length-range_with_len}
 use Rattle.dine_graph.specs.Plan.{SeenPlan, IsPlan, edges_of, is_one_of}
-use Rattle.dine_graph.proofs.ListLemmas.{length-filter-le}
+use Rattle.dine_graph.proofs.shared.ListLemmas.{length-filter-le}
 use Rattle.dine_states.proofs.Orders.{range_more}
 
 -- at most one is one, or none

@@ -1,12 +1,8 @@
--- All sites: ports added, what each left gathered by edge, and from that the headline, the forks after a fault, and the
--- rows.
+-- All sites: ports added, what each left gathered by edge, and from that the headline and the forks after a fault.
 pub mod Edges
 pub mod Placing
-pub mod Collected
 pub mod Gatherings
 pub mod InSlots
 pub mod Headlines
 pub mod Brokens
 pub mod Timings
-pub mod Ordered
-pub mod Rows

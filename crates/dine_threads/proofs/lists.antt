@@ -1,4 +1,3 @@
--- Lists that are read side by side or grow by one, and rows of slots of which one is written.
-pub mod Zips
+-- Links of one edge more, and rows of slots of which one is written.
 pub mod Pairs
 pub mod Writes

@@ -11,10 +11,10 @@ use Rattle.dine_token.specs.Lawful.{IsLawful}
 use Rattle.dine_token.specs.Periods.{periods_of, entries_of}
 use Rattle.dine_token.specs.Fork.{SeenFork, IsFork, MayMove, MayEat, after_move, after_meal}
 use Rattle.dine_token.specs.private.Fields.{seen_contents, MatchesLog}
-use Rattle.dine_token.proofs.Logs.{is_dirty-push_meal, is_dirty-push_move, location_of-push_meal, location_of-push_move, meals_of-push_own, meals_of-push_other, meals_of-push_move}
-use Rattle.dine_token.proofs.Lawfulness.{IsLawful-none}
+use Rattle.dine_token.proofs.shared.Logs.{is_dirty-push_meal, is_dirty-push_move, location_of-push_meal, location_of-push_move, meals_of-push_own, meals_of-push_other, meals_of-push_move}
+use Rattle.dine_token.proofs.shared.Lawfulness.{IsLawful-none}
 use Rattle.dine_token.proofs.Periods.{period, length-periods_of, one_more, last_one_more, last_one_more-append, set-last, periods_of-push_move, periods_of-push_meal, entries_of-opened, entries_of-one_more}
-use Rattle.dine_token.proofs.Forks.{IsFork-after_move, IsFork-after_meal, IsEnd-location, fork_has_periods}
+use Rattle.dine_token.proofs.shared.Forks.{IsFork-after_move, IsFork-after_meal, IsEnd-location, fork_has_periods}
 
 -- a fork that was just opened
 pub opened_matches : (fork : Contents) → fork.periods.items ≡ period fork.lower 1 0 ∷ [] → fork.lower < fork.higher → fork.lower_due ≤ 1000 → fork.higher_due ≤ 1000

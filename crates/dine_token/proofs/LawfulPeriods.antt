@@ -11,9 +11,9 @@ use Rattle.dine_token.specs.declared.log_period.Period.{Period}
 use Rattle.dine_token.specs.Log.{location_of, numbers_of, meals_of, destinations_of, moves_of}
 use Rattle.dine_token.specs.Lawful.{count_from, IsLawful}
 use Rattle.dine_token.specs.Periods.{periods_of, entries_of}
-use Rattle.dine_token.proofs.Logs.{split_push, push_induction, location_of-push_meal, location_of-push_move, location_of-turn, numbers_of-push_own, count_from-push, meals_of-push_own, meals_of-push_move, destinations_of-append, turn}
-use Rattle.dine_token.proofs.Lawfulness.{at_an_end}
-use Rattle.dine_token.proofs.Bounds.{IsLawful-front, counted_lawful}
+use Rattle.dine_token.proofs.shared.Logs.{split_push, push_induction, location_of-push_meal, location_of-push_move, location_of-turn, numbers_of-push_own, count_from-push, meals_of-push_own, meals_of-push_move, destinations_of-append, turn}
+use Rattle.dine_token.proofs.shared.Lawfulness.{at_an_end}
+use Rattle.dine_token.proofs.shared.Bounds.{IsLawful-front, counted_lawful}
 use Rattle.dine_token.proofs.Periods.{period, one_more, last_one_more, last_one_more-append, periods_of-push_move, periods_of-push_meal, length-periods_of, entries_of-opened, entries_of-one_more}
 
 -- before a period are the Moves between the periods before it, and the meals of both ends so far: 1 less than the

@@ -1,8 +1,5 @@
-pub mod Logs
-pub mod Lawfulness
-pub mod Bounds
+pub mod shared
 pub mod Periods
 pub mod LawfulPeriods
-pub mod Forks
 pub mod Places
 pub mod Contents

@@ -17,9 +17,9 @@ use Rattle.dine_rules.specs.Local.{LocalState, Traffic, edge_at, meal_fails, nei
 use Rattle.dine_rules.specs.Steps.{Step, after, given_fork, may, step_by, with_put}
 use Rattle.dine_rules.specs.Steps as step
 use Rattle.dine_rules.specs.World.{next_letter, place_of, put_to, start, state_of}
-use Rattle.dine_rules.proofs.links.WorldStreams.{IsStepOf, WorldKeeps, event_is_step, events_then, neighbour_differs, prefix_short, reached_kept}
-use Rattle.dine_rules.proofs.one_place.Placed.{placed}
-use Rattle.dine_rules.proofs.one_site.Shapes.{may_within}
+use Rattle.dine_rules.proofs.shared.links.WorldStreams.{IsStepOf, WorldKeeps, event_is_step, events_then, neighbour_differs, prefix_short, reached_kept}
+use Rattle.dine_rules.proofs.shared.one_place.Placed.{placed}
+use Rattle.dine_rules.proofs.shared.one_site.Shapes.{may_within}
 use Rattle.dine_site_core.specs.NextEvent.{may_by_itself, own_kinds}
 use Rattle.dine_site_core.specs.Standing.{all_places}
 use Rattle.dine_waking.specs.Sleeping.{Coming, letters_coming_at}

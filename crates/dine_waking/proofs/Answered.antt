@@ -8,12 +8,12 @@ use Rattle.dine_rules.specs.Letters.{forks_in, requests_in}
 use Rattle.dine_rules.specs.Links.{queue_to}
 use Rattle.dine_rules.specs.Local.{edge_at, is_hungry, is_thinking, neighbour_at, traffic_at}
 use Rattle.dine_rules.specs.World.{place_of, state_of}
-use Rattle.dine_rules.proofs.counting.Persistence.{IsLonger}
-use Rattle.dine_rules.proofs.lists.Counting.{requests_in-append}
-use Rattle.dine_rules.proofs.links.Across.{across}
-use Rattle.dine_rules.proofs.links.Joined.{Joined, forks_going, requests_coming}
-use Rattle.dine_rules.proofs.links.Links.{joined}
-use Rattle.dine_rules.proofs.links.WorldStreams.{WorldKeeps, reached_kept}
+use Rattle.dine_rules.proofs.shared.counting.Persistence.{IsLonger}
+use Rattle.dine_rules.proofs.shared.lists.Counting.{requests_in-append}
+use Rattle.dine_rules.proofs.shared.links.Across.{across}
+use Rattle.dine_rules.proofs.shared.links.Joined.{Joined, forks_going, requests_coming}
+use Rattle.dine_rules.proofs.shared.links.Links.{joined}
+use Rattle.dine_rules.proofs.shared.links.WorldStreams.{WorldKeeps, reached_kept}
 use Rattle.dine_waking.specs.Manners.{IsAsked, forks_given, meals_so_far}
 use Rattle.dine_waking.specs.Runs.{RunHasEnded, LeadsBySteps, Run}
 use Rattle.dine_waking.proofs.Bells.{RunKeeps}

@@ -9,10 +9,10 @@ use Rattle.dine_rules.specs.Local.{LocalState, Traffic, no_traffic, traffic_at}
 use Rattle.dine_rules.specs.Holdings.{fork_at, token_at, hand_at, with_meals_to}
 use Rattle.dine_rules.specs.Steps.{Step, Begin, after, may, is_ready}
 use Rattle.dine_rules.specs.Streams.{KeepsStreamsAt, is_lower_at}
-use Rattle.dine_rules.proofs.counting.Persistence.{IsLonger, longer_same, set_cases}
-use Rattle.dine_rules.proofs.lists.Counting.{forks_in-append, forks_in_turn, last_log_or-append, last_log_or-none, none_is_not_one}
-use Rattle.dine_rules.proofs.one_site.Shapes.{by_moves, moved, step_shape}
-use Rattle.dine_rules.proofs.one_site.SiteSteps.{list_all-range}
+use Rattle.dine_rules.proofs.shared.counting.Persistence.{IsLonger, longer_same, set_cases}
+use Rattle.dine_rules.proofs.shared.lists.Counting.{forks_in-append, forks_in_turn, last_log_or-append, last_log_or-none, none_is_not_one}
+use Rattle.dine_rules.proofs.shared.one_site.Shapes.{by_moves, moved, step_shape}
+use Rattle.dine_rules.proofs.shared.one_site.SiteSteps.{list_all-range}
 
 -- ---- numbers
 

@@ -13,14 +13,14 @@ use Rattle.dine_rules.specs.Local.{LocalState, edge_at, neighbour_at, traffic_at
 use Rattle.dine_rules.specs.Streams.{KeepsStreams}
 use Rattle.dine_rules.specs.Wants.{SeenWants, is_wanted}
 use Rattle.dine_rules.specs.World.{IsComplete, Reaches, WorldState, place_of, put_to, start, state_of, world_after}
-use Rattle.dine_rules.proofs.counting.EffectBounds.{events_bounded}
-use Rattle.dine_rules.proofs.counting.Enabled.{IsStill}
-use Rattle.dine_rules.proofs.ends_of_runs.Stuck.{still_is_complete}
-use Rattle.dine_rules.proofs.links.Across.{across}
-use Rattle.dine_rules.proofs.links.NextLetters.{in_order, reached_allowed}
-use Rattle.dine_rules.proofs.links.WorldStreams.{WorldKeeps, events_then, reached_kept}
-use Rattle.dine_rules.proofs.one_site.BreachLaw.{no_breach}
-use Rattle.dine_rules.proofs.precedence.Acyclic.{precedence_acyclic}
+use Rattle.dine_rules.proofs.shared.counting.EffectBounds.{events_bounded}
+use Rattle.dine_rules.proofs.shared.counting.Enabled.{IsStill}
+use Rattle.dine_rules.proofs.shared.ends_of_runs.Stuck.{still_is_complete}
+use Rattle.dine_rules.proofs.shared.links.Across.{across}
+use Rattle.dine_rules.proofs.shared.links.NextLetters.{in_order, reached_allowed}
+use Rattle.dine_rules.proofs.shared.links.WorldStreams.{WorldKeeps, events_then, reached_kept}
+use Rattle.dine_rules.proofs.shared.one_site.BreachLaw.{no_breach}
+use Rattle.dine_rules.proofs.shared.precedence.Acyclic.{precedence_acyclic}
 use Rattle.dine_site_core.specs.CoreWants.{wants_by_lists}
 use Rattle.dine_site_core.specs.NextEvent.{next_event}
 use Rattle.dine_site_core.specs.Standing.{has_finished}

@@ -12,10 +12,10 @@ use Rattle.dine_rules.specs.Links.{queue_to}
 use Rattle.dine_rules.specs.Local.{LocalState, Traffic, edge_at, neighbour_at, no_traffic, traffic_at}
 use Rattle.dine_rules.specs.World.{Reaches, WorldState, place_of, put_to, start, state_of}
 use Rattle.dine_rules.specs.Streams.{KeepsStreams}
-use Rattle.dine_rules.proofs.links.Across.{across}
-use Rattle.dine_rules.proofs.links.NextLetters.{reached_allowed}
-use Rattle.dine_rules.proofs.links.WorldStreams.{WorldKeeps, events_then, reached_kept, start_state}
-use Rattle.dine_rules.proofs.one_site.Site.{no_traffic_yet}
+use Rattle.dine_rules.proofs.shared.links.Across.{across}
+use Rattle.dine_rules.proofs.shared.links.NextLetters.{reached_allowed}
+use Rattle.dine_rules.proofs.shared.links.WorldStreams.{WorldKeeps, events_then, reached_kept, start_state}
+use Rattle.dine_rules.proofs.shared.one_site.Site.{no_traffic_yet}
 use Rattle.dine_site_core.specs.CoreWants.{can_put_off_by_lists, wants_by_lists}
 use Rattle.dine_site_core.specs.NextEvent.{next_event}
 use Rattle.dine_site_core.specs.Standing.{has_finished}

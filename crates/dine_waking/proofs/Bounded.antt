@@ -11,11 +11,11 @@ use Rattle.dine_rules.specs.Bound.{bound_of, effects_of}
 use Rattle.dine_rules.specs.Local.{edge_at, neighbour_at}
 use Rattle.dine_rules.specs.Wants.{SeenWants, is_wanted, still_wanted}
 use Rattle.dine_rules.specs.World.{place_of, start, state_of, world_after}
-use Rattle.dine_rules.proofs.counting.EffectBounds.{events_bounded}
-use Rattle.dine_rules.proofs.counting.Effects.{events_counted}
-use Rattle.dine_rules.proofs.links.Across.{across}
-use Rattle.dine_rules.proofs.links.WorldStreams.{events_then, neighbour_differs}
-use Rattle.dine_rules.proofs.one_place.Placed.{placed}
+use Rattle.dine_rules.proofs.shared.counting.EffectBounds.{events_bounded}
+use Rattle.dine_rules.proofs.shared.counting.Effects.{events_counted}
+use Rattle.dine_rules.proofs.shared.links.Across.{across}
+use Rattle.dine_rules.proofs.shared.links.WorldStreams.{events_then, neighbour_differs}
+use Rattle.dine_rules.proofs.shared.one_place.Placed.{placed}
 use Rattle.dine_site_core.specs.CoreWants.{wants_by_lists}
 use Rattle.dine_waking.specs.Runs.{Acts, ByActing, ByHearing, ByRinging, BySleeping, ByTaking, ByWaking, Doing, FallsAsleep, GoesOn, RunHasEnded, HearsRing, LeadsBySteps, HasToRing, RingsBell, Run, RunStep, Sleeps, HasToTake, TakesLetter, Thread, ThreadStep, HasToWake, WakesThread, IsToBeWoken, after_ringing, doing_after, doing_rung, fresh_thread, is_woken_by, thread_after_ring, start_run, thread_of}
 use Rattle.dine_waking.proofs.Queues.{take_at}

@@ -18,18 +18,18 @@ use Rattle.dine_rules.specs.Streams.{KeepsStreamsAt, is_orderly}
 use Rattle.dine_rules.specs.World.{WorldState, state_of, place_of, put_to, next_letter, IsComplete}
 use Rattle.dine_rules.specs.Links.{queue_to}
 use Rattle.dine_rules.specs.Precedence.{IsAcyclic, StandsBefore, preferred_end}
-use Rattle.dine_rules.proofs.links.Across.{across}
-use Rattle.dine_rules.proofs.precedence.CleanFirst.{HasClean, clean_precedes}
-use Rattle.dine_rules.proofs.precedence.Earlier.{HasEarlier, order_distinct, nobody_passes}
-use Rattle.dine_rules.proofs.one_site.InOrder.{IsOrderly}
-use Rattle.dine_rules.proofs.links.Joined.{one_fork, one_token}
-use Rattle.dine_rules.proofs.one_place.Keeping.{hungry_not_thinking}
-use Rattle.dine_rules.proofs.links.Links.{joined, link_holds, puts_back}
-use Rattle.dine_rules.proofs.links.NextLetters.{next_allowed}
-use Rattle.dine_rules.proofs.precedence.Orders.{Before, before_from, in_order}
-use Rattle.dine_rules.proofs.one_place.Placed.{placed}
-use Rattle.dine_rules.proofs.lists.Turns.{slice_get-behind, ends_in_close}
-use Rattle.dine_rules.proofs.links.WorldStreams.{WorldKeeps}
+use Rattle.dine_rules.proofs.shared.links.Across.{across}
+use Rattle.dine_rules.proofs.shared.precedence.CleanFirst.{HasClean, clean_precedes}
+use Rattle.dine_rules.proofs.shared.precedence.Earlier.{HasEarlier, order_distinct, nobody_passes}
+use Rattle.dine_rules.proofs.shared.one_site.InOrder.{IsOrderly}
+use Rattle.dine_rules.proofs.shared.links.Joined.{one_fork, one_token}
+use Rattle.dine_rules.proofs.shared.one_place.Keeping.{hungry_not_thinking}
+use Rattle.dine_rules.proofs.shared.links.Links.{joined, link_holds, puts_back}
+use Rattle.dine_rules.proofs.shared.links.NextLetters.{next_allowed}
+use Rattle.dine_rules.proofs.shared.precedence.Orders.{Before, before_from, in_order}
+use Rattle.dine_rules.proofs.shared.one_place.Placed.{placed}
+use Rattle.dine_rules.proofs.shared.lists.Turns.{slice_get-behind, ends_in_close}
+use Rattle.dine_rules.proofs.shared.links.WorldStreams.{WorldKeeps}
 
 -- ---- tests
 

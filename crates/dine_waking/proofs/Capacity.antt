@@ -9,10 +9,10 @@ use Rattle.dine_rules.specs.declared.letters.Kind4.{Kind4}
 use Rattle.dine_rules.specs.declared.letters.Letter.{Letter}
 use Rattle.dine_rules.specs.Local.{edge_at, neighbour_at}
 use Rattle.dine_rules.specs.World.{place_of, state_of}
-use Rattle.dine_rules.proofs.lists.Sums.{sum_by-add}
-use Rattle.dine_rules.proofs.links.Across.{IsAcross, across, place_of-edge_at}
-use Rattle.dine_rules.proofs.links.Links.{link_letters}
-use Rattle.dine_rules.proofs.links.WorldStreams.{WorldKeeps, reached_kept}
+use Rattle.dine_rules.proofs.shared.lists.Sums.{sum_by-add}
+use Rattle.dine_rules.proofs.shared.links.Across.{IsAcross, across, place_of-edge_at}
+use Rattle.dine_rules.proofs.shared.links.Links.{link_letters}
+use Rattle.dine_rules.proofs.shared.links.WorldStreams.{WorldKeeps, reached_kept}
 use Rattle.dine_waking.specs.Sleeping.{ArePlacesBelow, Coming, letters_coming_at}
 use Rattle.dine_waking.specs.Runs.{Doing, HasToRing, Run, places_heard, thread_of}
 use Rattle.dine_waking.proofs.Bells.{Fits, InLink, IsUnrung, KeepsBell, RunKeeps}

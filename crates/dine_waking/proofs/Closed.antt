@@ -9,7 +9,7 @@ use Rattle.dine_rules.specs.Letters.{has_close}
 use Rattle.dine_rules.specs.Links.{queue_to}
 use Rattle.dine_rules.specs.Local.{edge_at, neighbour_at, traffic_at}
 use Rattle.dine_rules.specs.World.{place_of, put_to, state_of}
-use Rattle.dine_rules.proofs.links.NextLetters.{reached_allowed}
+use Rattle.dine_rules.proofs.shared.links.NextLetters.{reached_allowed}
 use Rattle.dine_waking.specs.Runs.{Run, has_yet_to_ring, rings_left, thread_of}
 use Rattle.dine_waking.proofs.Accounts.{account}
 use Rattle.dine_waking.proofs.Bells.{RunKeeps}

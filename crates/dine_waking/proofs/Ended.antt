@@ -9,9 +9,9 @@ use Rattle.dine_rules.specs.Local.{edge_at, neighbour_at, traffic_at}
 use Rattle.dine_rules.specs.Steps.{Take, may}
 use Rattle.dine_rules.specs.Streams.{KeepsStreams}
 use Rattle.dine_rules.specs.World.{place_of, put_to, state_of}
-use Rattle.dine_rules.proofs.links.Across.{IsAcross, across, place_of-edge_at}
-use Rattle.dine_rules.proofs.links.NextLetters.{reached_allowed}
-use Rattle.dine_rules.proofs.links.WorldStreams.{reached_kept}
+use Rattle.dine_rules.proofs.shared.links.Across.{IsAcross, across, place_of-edge_at}
+use Rattle.dine_rules.proofs.shared.links.NextLetters.{reached_allowed}
+use Rattle.dine_rules.proofs.shared.links.WorldStreams.{reached_kept}
 use Rattle.dine_site_core.specs.Standing.{has_finished}
 use Rattle.dine_waking.specs.Sleeping.{ArePlacesBelow, Coming, letters_coming_at}
 use Rattle.dine_waking.specs.Runs.{Doing, HasToRing, Run, rings_left, thread_of}

@@ -5,8 +5,8 @@ use Rattle.dine_graph.specs.Plan.{SeenPlan, IsPlan, site_count}
 use Rattle.dine_rules.specs.declared.events.Event.{Event}
 use Rattle.dine_rules.specs.Bound.{bound_of}
 use Rattle.dine_rules.specs.World.{WorldState, world_after}
-use Rattle.dine_rules.proofs.counting.Listed.{listed}
-use Rattle.dine_rules.proofs.ends_of_runs.Complete.{complete_is_stuck}
+use Rattle.dine_rules.proofs.shared.counting.Listed.{listed}
+use Rattle.dine_rules.proofs.shared.ends_of_runs.Complete.{complete_is_stuck}
 use Rattle.dine_waking.specs.Runs.{ByActing, ByHearing, ByRinging, BySleeping, ByTaking, ByWaking, GoesOn, GoesOnForever, RunHasEnded, IsStuck, LeadsBySteps, HasToRing, Run, RunStep, HasToTake, Thread, ThreadStep, HasToWake, start_run, thread_of}
 use Rattle.dine_waking.proofs.Bells.{RunKeeps}
 use Rattle.dine_waking.proofs.Bounded.{LeadsToEnd, leads_then, reached_keeps, run_ends, steps_bounded, stuck_has_ended}

@@ -13,8 +13,8 @@ use Rattle.dine_rules.specs.Local.{LocalState, edge_at, meal_fails, neighbour_at
 use Rattle.dine_rules.specs.Steps.{Step, after, given_fork, may, step_by, with_taken}
 use Rattle.dine_rules.specs.Steps as step
 use Rattle.dine_rules.specs.World.{WorldState, next_letter, no_state, state_of, world_after}
-use Rattle.dine_rules.proofs.counting.Persistence.{set_cases}
-use Rattle.dine_rules.proofs.links.WorldStreams.{WorldKeeps, event_is_step, option_map_parts, reached_kept}
+use Rattle.dine_rules.proofs.shared.counting.Persistence.{set_cases}
+use Rattle.dine_rules.proofs.shared.links.WorldStreams.{WorldKeeps, event_is_step, option_map_parts, reached_kept}
 use Rattle.dine_site_core.specs.CoreWants.{can_put_off_by_lists}
 use Rattle.dine_site_core.specs.NextEvent.{may_by_itself, own_kinds}
 use Rattle.dine_site_core.specs.Standing.{all_places}

@@ -11,10 +11,10 @@ use Rattle.dine_rules.specs.Local.{LocalState, edge_at, neighbour_at, traffic_at
 use Rattle.dine_rules.specs.Steps.{Begin, Step, after}
 use Rattle.dine_rules.specs.Streams.{KeepsStreamsAt, is_lower_at}
 use Rattle.dine_rules.specs.World.{place_of, state_of}
-use Rattle.dine_rules.proofs.links.Joined.{Joined, few_requests, forks_coming, forks_going, one_fork, requests_coming}
-use Rattle.dine_rules.proofs.links.Links.{joined}
-use Rattle.dine_rules.proofs.links.WorldStreams.{reached_kept}
-use Rattle.dine_rules.proofs.precedence.PreferenceSteps.{IsStill, begin_eats, step_changes}
+use Rattle.dine_rules.proofs.shared.links.Joined.{Joined, few_requests, forks_coming, forks_going, one_fork, requests_coming}
+use Rattle.dine_rules.proofs.shared.links.Links.{joined}
+use Rattle.dine_rules.proofs.shared.links.WorldStreams.{reached_kept}
+use Rattle.dine_rules.proofs.shared.precedence.PreferenceSteps.{IsStill, begin_eats, step_changes}
 use Rattle.dine_waking.specs.Manners.{HasRungForAll, HoldsCleanFork, HoldsDirtyFork, IsAsked, LeadsInManner, MannerStep, WaitsForFork, forks_given, checked_after, meals_so_far}
 use Rattle.dine_waking.specs.Runs.{LeadsBySteps, Run, RunStep, ThreadStep}
 use Rattle.dine_waking.proofs.AskedPlaces.{asker_waits, waiter_put_more}

@@ -3,7 +3,7 @@
 use Rattle.std.proofs.Common.{◌≡◌, ◌⊎◌, ℕ, zero, suc, ◌+◌, ◌<◌, ◌≤◌, Bool, false, length, refl, sym, ◌∙◌, ap, subst, inl, inr, arith}
 use Rattle.dine_graph.specs.Plan.{SeenPlan, IsPlan, site_count, edges_of}
 use Rattle.dine_rules.specs.Local.{neighbour_at, traffic_at}
-use Rattle.dine_rules.proofs.links.Across.{across}
+use Rattle.dine_rules.proofs.shared.links.Across.{across}
 use Rattle.dine_waking.specs.Manners.{HasRungForAll, HoldsCleanFork, HoldsDirtyFork, IsAsked, WaitsForFork, checked_after, forks_given, meals_so_far}
 use Rattle.dine_waking.specs.Patience.{LeadsPatiently, PatientStep, skips_after}
 use Rattle.dine_waking.specs.Runs.{LeadsBySteps, Run, ThreadStep, number_there}

@@ -12,11 +12,11 @@ use Rattle.dine_rules.specs.Local.{LocalState, edge_at, neighbour_at, traffic_at
 use Rattle.dine_rules.specs.Steps.{Begin, after, may}
 use Rattle.dine_rules.specs.Streams.{KeepsStreamsAt}
 use Rattle.dine_rules.specs.World.{place_of, put_to, state_of}
-use Rattle.dine_rules.proofs.counting.Persistence.{IsLonger, longer_get}
-use Rattle.dine_rules.proofs.lists.Counting.{requests_in-append}
-use Rattle.dine_rules.proofs.links.Links.{link_holds}
-use Rattle.dine_rules.proofs.precedence.PreferenceSteps.{IsEaten, begin_eats}
-use Rattle.dine_rules.proofs.links.WorldStreams.{WorldKeeps, reached_kept}
+use Rattle.dine_rules.proofs.shared.counting.Persistence.{IsLonger, longer_get}
+use Rattle.dine_rules.proofs.shared.lists.Counting.{requests_in-append}
+use Rattle.dine_rules.proofs.shared.links.Links.{link_holds}
+use Rattle.dine_rules.proofs.shared.precedence.PreferenceSteps.{IsEaten, begin_eats}
+use Rattle.dine_rules.proofs.shared.links.WorldStreams.{WorldKeeps, reached_kept}
 use Rattle.dine_waking.specs.Manners.{HasRungForAll, HoldsDirtyFork, IsAsked, IsInManner, LeadsInManner, MannerStep, forks_given, has_checked, checked_after, meals_so_far}
 use Rattle.dine_waking.specs.Runs.{LeadsBySteps, Run, RunStep, ThreadStep, rings_for, rings_left, thread_of}
 use Rattle.dine_waking.proofs.Accounts.{account}

@@ -14,10 +14,10 @@ use Rattle.dine_rules.specs.Steps as step
 use Rattle.dine_rules.specs.Streams.{IsClosedInOrder, KeepsStreams, is_orderly}
 use Rattle.dine_rules.specs.Wants.{SeenWants}
 use Rattle.dine_rules.specs.World.{IsComplete, WorldState, place_of, put_to, state_of, world_after}
-use Rattle.dine_rules.proofs.lists.Counting.{has_close-append}
-use Rattle.dine_rules.proofs.links.Across.{across}
-use Rattle.dine_rules.proofs.links.NextLetters.{reached_allowed}
-use Rattle.dine_rules.proofs.links.WorldStreams.{reached_kept}
+use Rattle.dine_rules.proofs.shared.lists.Counting.{has_close-append}
+use Rattle.dine_rules.proofs.shared.links.Across.{across}
+use Rattle.dine_rules.proofs.shared.links.NextLetters.{reached_allowed}
+use Rattle.dine_rules.proofs.shared.links.WorldStreams.{reached_kept}
 use Rattle.dine_site_core.specs.CoreWants.{wants_by_lists}
 use Rattle.dine_site_core.specs.NextEvent.{may_by_itself, next_event, own_kinds}
 use Rattle.dine_site_core.specs.Standing.{all_places, has_finished}

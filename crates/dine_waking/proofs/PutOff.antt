@@ -16,9 +16,9 @@ use Rattle.dine_rules.specs.Holdings.{fork_at, hand_at}
 use Rattle.dine_rules.specs.Letters.{kind_of}
 use Rattle.dine_rules.specs.Local.{LocalState, is_eating}
 use Rattle.dine_rules.specs.Wants.{SeenWants, is_wanted, still_wanted}
-use Rattle.dine_rules.proofs.one_site.BreachLaw.{no_breach}
+use Rattle.dine_rules.proofs.shared.one_site.BreachLaw.{no_breach}
 use Rattle.dine_site_core.specs.CoreWants.{can_put_off_by_lists, has_dirty_fork, wants_by_lists}
-use Rattle.dine_site_core.proofs.one_site.Breaches.{fork_in_turn}
+use Rattle.dine_site_core.proofs.shared.one_site.Breaches.{fork_in_turn}
 use Rattle.dine_waking.specs.Sleeping.{ArePlacesBelow, ComeUnwanted, Coming, letters_coming_at}
 use Rattle.dine_waking.specs.Runs.{rings_for}
 use Rattle.dine_waking.proofs.Letters.{count_letters, first_at, first_elsewhere}

@@ -13,9 +13,9 @@ use Rattle.dine_rules.specs.Links.{queue_to}
 use Rattle.dine_rules.specs.Local.{LocalState, Traffic, edge_at, neighbour_at, no_traffic, traffic_at}
 use Rattle.dine_rules.specs.Steps.{Step, Take, after, may, with_put, with_taken}
 use Rattle.dine_rules.specs.World.{WorldState, local_after, no_state, place_of, put_to, site_after, state_of, step_of, world_after}
-use Rattle.dine_rules.proofs.counting.Persistence.{set_cases}
-use Rattle.dine_rules.proofs.links.WorldStreams.{WorldKeeps, event_is_step, neighbour_differs}
-use Rattle.dine_rules.proofs.one_place.Placed.{placed}
+use Rattle.dine_rules.proofs.shared.counting.Persistence.{set_cases}
+use Rattle.dine_rules.proofs.shared.links.WorldStreams.{WorldKeeps, event_is_step, neighbour_differs}
+use Rattle.dine_rules.proofs.shared.one_place.Placed.{placed}
 use Rattle.dine_waking.proofs.Quiet.{first_is_next}
 
 -- ---- one letter more at a place

@@ -8,10 +8,10 @@ use Rattle.dine_rules.specs.Letters.{kind_of, requests_in}
 use Rattle.dine_rules.specs.Links.{queue_to}
 use Rattle.dine_rules.specs.Local.{neighbour_at}
 use Rattle.dine_rules.specs.World.{state_of}
-use Rattle.dine_rules.proofs.lists.Counting.{requests_in-append}
-use Rattle.dine_rules.proofs.links.Across.{across}
-use Rattle.dine_rules.proofs.links.Links.{link_requests}
-use Rattle.dine_rules.proofs.links.WorldStreams.{WorldKeeps, reached_kept}
+use Rattle.dine_rules.proofs.shared.lists.Counting.{requests_in-append}
+use Rattle.dine_rules.proofs.shared.links.Across.{across}
+use Rattle.dine_rules.proofs.shared.links.Links.{link_requests}
+use Rattle.dine_rules.proofs.shared.links.WorldStreams.{WorldKeeps, reached_kept}
 use Rattle.dine_waking.specs.Manners.{HasRungForAll, IsAsked, WaitsForFork}
 use Rattle.dine_waking.specs.Runs.{Doing, RingsBell, Run, after_ringing, has_yet_to_ring, number_there}
 use Rattle.dine_waking.proofs.Bells.{Fits, RunKeeps}

@@ -20,12 +20,12 @@ use Rattle.dine_rules.specs.Steps as step
 use Rattle.dine_rules.specs.Streams.{KeepsStreams}
 use Rattle.dine_rules.specs.Wants.{SeenWants}
 use Rattle.dine_rules.specs.World.{Reaches, WorldState, placeless_kinds, put_to, start, state_of, world_after}
-use Rattle.dine_rules.proofs.counting.EffectBounds.{events_bounded}
-use Rattle.dine_rules.proofs.counting.Enabled.{IsStill}
-use Rattle.dine_rules.proofs.links.NextLetters.{in_order, reached_allowed}
-use Rattle.dine_rules.proofs.links.WorldStreams.{WorldKeeps, events_then, reached_kept}
-use Rattle.dine_rules.proofs.one_site.BreachLaw.{no_breach}
-use Rattle.dine_rules.proofs.precedence.Acyclic.{precedence_acyclic}
+use Rattle.dine_rules.proofs.shared.counting.EffectBounds.{events_bounded}
+use Rattle.dine_rules.proofs.shared.counting.Enabled.{IsStill}
+use Rattle.dine_rules.proofs.shared.links.NextLetters.{in_order, reached_allowed}
+use Rattle.dine_rules.proofs.shared.links.WorldStreams.{WorldKeeps, events_then, reached_kept}
+use Rattle.dine_rules.proofs.shared.one_site.BreachLaw.{no_breach}
+use Rattle.dine_rules.proofs.shared.precedence.Acyclic.{precedence_acyclic}
 use Rattle.dine_site_core.specs.CoreWants.{wants_by_lists}
 use Rattle.dine_site_core.specs.NextEvent.{may_by_itself, next_event, own_kinds}
 use Rattle.dine_site_core.specs.Standing.{all_places, has_finished}

@@ -10,9 +10,9 @@ use Rattle.dine_rules.specs.Links.{queue_to}
 use Rattle.dine_rules.specs.Local.{LocalState, edge_at, neighbour_at}
 use Rattle.dine_rules.specs.Wants.{SeenWants, is_wanted, still_wanted}
 use Rattle.dine_rules.specs.World.{WorldState, place_of, state_of}
-use Rattle.dine_rules.proofs.links.Across.{IsAcross, across, place_of-edge_at}
-use Rattle.dine_rules.proofs.links.WorldStreams.{neighbour_differs}
-use Rattle.dine_rules.proofs.one_place.Placed.{placed}
+use Rattle.dine_rules.proofs.shared.links.Across.{IsAcross, across, place_of-edge_at}
+use Rattle.dine_rules.proofs.shared.links.WorldStreams.{neighbour_differs}
+use Rattle.dine_rules.proofs.shared.one_place.Placed.{placed}
 use Rattle.dine_site_core.specs.CoreWants.{wants_by_lists}
 use Rattle.dine_waking.specs.Sleeping.{Coming, letters_coming_at}
 use Rattle.dine_waking.specs.Runs.{Doing, GoesOn, HasToRing, RingsBell, Run, Sleeps, HasToTake, Thread, HasToWake, IsToBeWoken, after_ringing, doing_rung, fresh_thread, is_woken_by, places_heard, rings_left, thread_after_ring, thread_of}

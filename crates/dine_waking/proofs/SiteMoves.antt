@@ -11,9 +11,9 @@ use Rattle.dine_rules.specs.declared.phase.Phase.TheVariants as phase
 use Rattle.dine_rules.specs.Local.{LocalState, is_eating, is_hungry, traffic_at}
 use Rattle.dine_rules.specs.Steps.{Step, Begin, End, Hungry, after, may}
 use Rattle.dine_rules.specs.World.{WorldState, no_state, state_of, world_after}
-use Rattle.dine_rules.proofs.counting.Persistence.{IsLonger, longer_same, set_cases, step_puts}
-use Rattle.dine_rules.proofs.lists.Counting.{forks_in-append}
-use Rattle.dine_rules.proofs.links.WorldStreams.{event_is_step}
+use Rattle.dine_rules.proofs.shared.counting.Persistence.{IsLonger, longer_same, set_cases, step_puts}
+use Rattle.dine_rules.proofs.shared.lists.Counting.{forks_in-append}
+use Rattle.dine_rules.proofs.shared.links.WorldStreams.{event_is_step}
 use Rattle.dine_waking.specs.Manners.{meals_so_far}
 use Rattle.dine_waking.specs.Runs.{ByActing, ByHearing, ByRinging, BySleeping, ByTaking, ByWaking, LeadsBySteps, Run, ThreadStep}
 use Rattle.dine_waking.proofs.AskedPlaces.{begins_or_not, step_takes}

@@ -2,7 +2,7 @@
 use Rattle.std.proofs.Common.{◌≡◌, ◌⊎◌, ℕ, ◌+◌, ◌<◌, ◌≤◌, Bool, true, length, sym, subst, inl, inr, arith}
 use Rattle.dine_graph.specs.Plan.{SeenPlan, IsPlan, edges_of}
 use Rattle.dine_rules.specs.Local.{neighbour_at}
-use Rattle.dine_rules.proofs.links.Across.{across}
+use Rattle.dine_rules.proofs.shared.links.Across.{across}
 use Rattle.dine_waking.specs.Manners.{HasRungForAll, HoldsCleanFork, IsAsked, LeadsInManner, WaitsForFork, meals_so_far}
 use Rattle.dine_waking.specs.Runs.{Run, number_there}
 use Rattle.dine_waking.proofs.Bells.{RunKeeps}

@@ -9,9 +9,9 @@ use Rattle.dine_rules.specs.Links.{queue_to}
 use Rattle.dine_rules.specs.Local.{edge_at, neighbour_at}
 use Rattle.dine_rules.specs.Wants.{SeenWants, is_wanted, still_wanted}
 use Rattle.dine_rules.specs.World.{Reaches, WorldState, place_of, state_of}
-use Rattle.dine_rules.proofs.links.Across.{IsAcross, across, place_of-edge_at}
-use Rattle.dine_rules.proofs.links.WorldStreams.{neighbour_differs}
-use Rattle.dine_rules.proofs.one_place.Placed.{placed}
+use Rattle.dine_rules.proofs.shared.links.Across.{IsAcross, across, place_of-edge_at}
+use Rattle.dine_rules.proofs.shared.links.WorldStreams.{neighbour_differs}
+use Rattle.dine_rules.proofs.shared.one_place.Placed.{placed}
 use Rattle.dine_waking.specs.Sleeping.{Coming}
 use Rattle.dine_waking.specs.Runs.{Doing, GoesOn, HasToRing, RingsBell, Run, Sleeps, HasToTake, Thread, HasToWake, WakesThread, IsToBeWoken, after_ringing, doing_rung, is_woken_by, places_heard, rings_left, thread_after_ring, thread_of}
 use Rattle.dine_waking.proofs.Bells.{AreWaking, Fits, InLink, IsPlain, IsUnrung, IsWaking, KeepsBell, KeepsUnrung, RunKeeps, link_stays, site_stays, thread_elsewhere, thread_here, two_here, two_many, two_other, two_there, waking_stays}

@@ -1,5 +1,5 @@
 -- A fork that is carried on: where it is, its meals, and what is reported of it.
-use Rattle.std.proofs.Common.{◌≡◌, ◌⊎◌, ℕ, zero, suc, ◌+◌, ◌-◌, ◌<◌, ◌≤◌, ◌*◌, ◌^◌, true, false, List, [], ◌∷◌, ◌++◌, length, refl, sym, ◌∙◌, ap, subst, inl, inr, arith, append-nil, cond, eqb}
+use Rattle.std.proofs.Common.{◌≡◌, ◌⊎◌, ℕ, zero, suc, ◌+◌, ◌-◌, ◌<◌, ◌≤◌, ◌*◌, ◌^◌, true, List, [], ◌∷◌, ◌++◌, length, refl, sym, ◌∙◌, ap, subst, inl, inr, arith, append-nil}
 use Rattle.std.proofs.lemmas.Bool.{eq-eqb, ne_eqb}
 use Rattle.std.proofs.lemmas.List.{length-append}
 use Rattle.dine_token.specs.declared.act.Act.{Act}
@@ -10,12 +10,12 @@ use Rattle.dine_token.specs.Fork.{SeenFork, IsEnd, IsFork, MayEat, MayMove, afte
 use Rattle.dine_token.specs.Log.{destinations_of, is_dirty, meals_of, moves_of}
 use Rattle.dine_token.specs.Lawful.{due_at}
 use Rattle.dine_token.specs.Values.{IsAct, value_after_act}
-use Rattle.dine_token.proofs.Logs.{destinations_of-append, is_dirty-push_meal, location_of-push_move, meals_of-push_move, meals_of-push_other}
-use Rattle.dine_token.proofs.Forks.{IsEnd-location}
+use Rattle.dine_token.proofs.shared.Logs.{destinations_of-append, is_dirty-push_meal, location_of-push_move, meals_of-push_move, meals_of-push_other}
+use Rattle.dine_token.proofs.shared.Forks.{IsEnd-location}
 use Rattle.dine_graph.specs.Plan.{SeenPlan, IsPlan, act_of, hi_of, job_count, lo_of, site_count}
 use Rattle.dine_rules.specs.Holdings.{meals_from}
 use Rattle.dine_rules.specs.Values.{after_meals}
-use Rattle.dine_rules.proofs.one_place.Hands.{with_meals, with_meals-more, with_meals-none, meals_of-with_meals, location_of-with_meals}
+use Rattle.dine_rules.proofs.shared.one_place.Hands.{with_meals, with_meals-more, with_meals-none, meals_of-with_meals, location_of-with_meals}
 use Rattle.dine_wire.specs.Arrivals.{IsOfPlan, MayCarryOn, carried_on, eaten_on, meals_here}
 use Rattle.dine_wire.specs.Notes.{fork_note}
 use Rattle.dine_wire.specs.declared.note.ForkNote.{ForkNote}
@@ -118,14 +118,6 @@ reported plan fork n note is same =
     let e = same ∙ fork_note-carried_on plan fork n is (IsEnd-location fork is) in
     record { moves = ap (λ (x : ForkNote). x.moves) e; ate = ap (λ (x : ForkNote). x.ate) e; value = ap (λ (x : ForkNote). x.value) e }
 
--- a note that reports this is that of the fork
-pub reports : (plan : SeenPlan) (fork : SeenFork) (n : ℕ) (note : ForkNote) → IsFork fork → note.moves ≡ moves_of fork.log + 1 → note.ate ≡ meals_here fork + n
-    → note.value ≡ after_meals plan (location fork) (meals_here fork + 1) n fork.value → note ≡ fork_note (carried_on plan fork n)
-reports plan fork n note is moves ate value =
-    let to : note ≡ record { moves = moves_of fork.log + 1; ate = meals_here fork + n; value = after_meals plan (location fork) (meals_here fork + 1) n fork.value } =
-    (λ i. record { moves = moves i; ate = ate i; value = value i }) in
-    to ∙ sym (fork_note-carried_on plan fork n is (IsEnd-location fork is))
-
 -- ---- the Move after the meals
 
 pub MayMove-eaten_on : (plan : SeenPlan) (fork : SeenFork) (n : ℕ) → IsFork fork → MayCarryOn fork n → MayMove (other_end fork (location fork)) (eaten_on plan fork n)
@@ -137,14 +129,6 @@ MayMove-eaten_on plan fork n is may = record {
 }
 
 -- ---- limits of the value and of the numbers
-
--- at most 1,000 meals are due to an end
-pub due_small : (fork : SeenFork) (s : ℕ) → IsFork fork → due_at fork.ends fork.due s ≤ 1000
-due_small fork s is = elim (eqb s fork.ends.0) as (λ b. cond b fork.due.0 fork.due.1 ≤ 1000) [ true ↦ is.lower_due | false ↦ is.higher_due ]
-
--- the value has space for n meals
-pub value_fits : (fork : SeenFork) (n : ℕ) → IsFork fork → MayCarryOn fork n → fork.value + 1000000 * n < 2 ^ 64
-value_fits fork n is may = omega (arith, is.bounded, is.lawful.lower_within, is.lawful.higher_within, is.lower_due, is.higher_due, may.within, due_small fork (location fork) is)
 
 -- a value that has space for m - i meals has it for one less after one of them
 pub act_fits : (act : Act) (value m i : ℕ) → IsAct act → i < m → value + 1000000 * (m - i) < 2 ^ 64 → value_after_act act value + 1000000 * (m - (i + 1)) < 2 ^ 64

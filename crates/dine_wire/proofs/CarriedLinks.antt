@@ -19,13 +19,13 @@ use Rattle.dine_rules.specs.Local.{Traffic}
 use Rattle.dine_rules.specs.Steps.{fork_with, opened_fork}
 use Rattle.dine_rules.specs.Streams.{AreRequestsOf, CarriesOnTaken, logs_of}
 use Rattle.dine_rules.specs.Values.{CarriesValue, value_to}
-use Rattle.dine_rules.proofs.lists.Forks.{logs_of-at}
-use Rattle.dine_rules.proofs.one_place.Owned.{own_is}
+use Rattle.dine_rules.proofs.shared.lists.Forks.{logs_of-at}
+use Rattle.dine_rules.proofs.shared.one_place.Owned.{own_is}
 use Rattle.dine_wire.specs.Arrivals.{IsOfPlan, meals_here}
 use Rattle.dine_wire.specs.Carried.{GoesOn, IsCarriedOn, IsOfKept, TakesByBytes, fork_for_next, kept_forks, letter_bytes}
-use Rattle.dine_wire.proofs.CarriedForks.{IsFork-carried_on, IsFork-opened, chained_is_carried, location-carried_on, of_plan, same_bytes}
+use Rattle.dine_wire.proofs.shared.CarriedForks.{IsFork-carried_on, IsFork-opened, chained_is_carried, location-carried_on, of_plan, same_bytes}
 use Rattle.dine_wire.proofs.CarriedLists.{fork_like, same_front}
-use Rattle.dine_wire.proofs.LettersOfRuns.{first_put}
+use Rattle.dine_wire.proofs.shared.LettersOfRuns.{first_put}
 
 -- a Fork among the letters is one of them
 at_letter : (letters : List Letter) (k : ℕ) (fork : SeenFork) → slice_get (forks_among letters) k ≡ Some fork → (j : ℕ) × (slice_get letters j ≡ Some (letter.Fork fork))

@@ -7,10 +7,10 @@ use Rattle.dine_rules.specs.JoinedEnds.{AccountsForFork, AreEndsOfEdge, AreLinke
 use Rattle.dine_rules.specs.Local.{LocalState, Traffic, edge_at, neighbour_at, traffic_at}
 use Rattle.dine_rules.specs.Streams.{AreRequestsOf, KeepsStreams, KeepsStreamsAt}
 use Rattle.dine_rules.specs.World.{LinksAreOrdered, WorldState, place_of, state_of}
-use Rattle.dine_rules.proofs.one_place.Placed.{placed}
-use Rattle.dine_rules.proofs.two_ends.JoinedEnds.{accounts_for_fork}
-use Rattle.dine_rules.proofs.two_ends.TwoEnds.{ends_at}
-use Rattle.dine_rules.proofs.links.Across.{across, place_of-edge_at}
+use Rattle.dine_rules.proofs.shared.one_place.Placed.{placed}
+use Rattle.dine_rules.proofs.shared.two_ends.JoinedEnds.{accounts_for_fork}
+use Rattle.dine_rules.proofs.shared.two_ends.TwoEnds.{ends_at}
+use Rattle.dine_rules.proofs.shared.links.Across.{across, place_of-edge_at}
 use Rattle.dine_wire.specs.Carried.{AreAllJoinedByBytes, IsOfKept, TakesByBytes, fork_for_next}
 use Rattle.dine_wire.proofs.CarriedLinks.{links_carry, next_high, next_low}
 

@@ -1,5 +1,5 @@
 -- What the bytes of a letter report, and the bytes.
-use Rattle.std.specs.Prelude.{ℕ, ◌<◌, ◌^◌, List, ◌∷◌, ◌++◌, All}
+use Rattle.std.specs.Prelude.{ℕ, ◌<◌, ◌^◌, List, ◌∷◌, ◌++◌}
 use Rattle.std.specs.Int.{to_le_bytes, w32, w64}
 use Rattle.dine_token.specs.Fork.{SeenFork, location, other_end}
 use Rattle.dine_token.specs.Log.{meals_of, moves_of}
@@ -50,7 +50,3 @@ IsToldInBytes Close = Unit {0}
 -- the numbers of the note fit into their bytes
 abbrev pub IsInBytes : Note → Type 0
 IsInBytes note = (note.edge < 2 ^ 32) × IsToldInBytes note.told
-
--- each is a byte
-abbrev pub AreBytes : List ℕ → Type 0
-AreBytes bytes = All (λ byte. byte < 256) bytes

@@ -18,11 +18,11 @@ use Rattle.dine_site_core.specs.LinkNumbers.{link_to}
 use Rattle.dine_core.specs.WorldSites.{IsSiteOf, can_do, letters_in, next_in}
 use Rattle.dine_rules.specs.World.{WorldState, is_enabled, local_after, next_letter, put_to, site_after, state_of, step_of}
 use Rattle.dine_core.specs.Worlds.{IsWorldOf, SeenWorld, can_at, can_happen, number_to}
-use Rattle.dine_rules.proofs.links.NextLetters.{reached_allowed}
-use Rattle.dine_site_core.proofs.lists.Ranges.{and_along, begin_by}
-use Rattle.dine_site_core.proofs.one_site.SiteTests.{ask_is, close_is, done_is, give_is, guarded, hunger_is, quit_is, may_be, next_is}
-use Rattle.dine_site_core.proofs.one_site.Stands.{place_is}
-use Rattle.dine_rules.proofs.links.WorldStreams.{WorldKeeps, reached_kept}
+use Rattle.dine_rules.proofs.shared.links.NextLetters.{reached_allowed}
+use Rattle.dine_site_core.proofs.shared.lists.Ranges.{and_along, begin_by}
+use Rattle.dine_site_core.proofs.shared.one_site.SiteTests.{ask_is, close_is, done_is, give_is, guarded, hunger_is, quit_is, may_be, next_is}
+use Rattle.dine_site_core.proofs.shared.one_site.Stands.{place_is}
+use Rattle.dine_rules.proofs.shared.links.WorldStreams.{WorldKeeps, reached_kept}
 
 -- ---- the links
 

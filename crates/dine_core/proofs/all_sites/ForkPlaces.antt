@@ -23,7 +23,7 @@ use Rattle.dine_rules.specs.Local.{LocalState, traffic_at, edge_at, neighbour_at
 use Rattle.dine_rules.specs.Holdings.{EatsWithAll, fork_at, hand_at}
 use Rattle.dine_rules.specs.Steps.{fork_by, fork_with, hand_fork_at}
 use Rattle.dine_rules.specs.Values.{value_by}
-use Rattle.dine_rules.proofs.two_ends.ValuesByLogs.{world_tells}
+use Rattle.dine_rules.proofs.shared.two_ends.ValuesByLogs.{world_tells}
 use Rattle.dine_rules.specs.Streams.{KeepsStreams}
 use Rattle.dine_site_core.specs.Core.{forks_in_hand}
 use Rattle.dine_site_core.specs.Places.{no_place, place_at}
@@ -37,16 +37,16 @@ use Rattle.dine_core.specs.private.Forks.{absent_site, site_at, no_ends, fork_in
 use Rattle.dine_core.specs.declared.world.World.TheInside.{Inside}
 use Rattle.dine_core.specs.private.WorldFields.{IsKeptWorld, seen_world}
 use Rattle.dine_core.specs.Worlds.{SeenWorld, IsWorldOf, number_to, ends_seen, fork_seen, forks_seen}
-use Rattle.dine_rules.proofs.links.Across.{across}
-use Rattle.dine_rules.proofs.lists.Counting.{last_log_or-append, last_log_or-none, none_or_some}
-use Rattle.dine_rules.proofs.one_place.Owned.{own_is}
-use Rattle.dine_rules.proofs.links.Near.{near_log, put_count}
-use Rattle.dine_rules.proofs.links.EatersApart.{eats_with_all}
-use Rattle.dine_rules.proofs.links.EdgeSums.{one_fork_of_edge}
-use Rattle.dine_rules.proofs.links.Links.{link_holds, link_forks}
+use Rattle.dine_rules.proofs.shared.links.Across.{across}
+use Rattle.dine_rules.proofs.shared.lists.Counting.{last_log_or-append, last_log_or-none, none_or_some}
+use Rattle.dine_rules.proofs.shared.one_place.Owned.{own_is}
+use Rattle.dine_rules.proofs.shared.links.Near.{near_log, put_count}
+use Rattle.dine_rules.proofs.shared.links.EatersApart.{eats_with_all}
+use Rattle.dine_rules.proofs.shared.links.EdgeSums.{one_fork_of_edge}
+use Rattle.dine_rules.proofs.shared.links.Links.{link_holds, link_forks}
 use Rattle.dine_core.proofs.all_sites.MealFits.{count_is, has_own_meal, hand_is}
-use Rattle.dine_rules.proofs.precedence.Preference.{is_edge}
-use Rattle.dine_rules.proofs.links.WorldStreams.{WorldKeeps, reached_kept}
+use Rattle.dine_rules.proofs.shared.precedence.Preference.{is_edge}
+use Rattle.dine_rules.proofs.shared.links.WorldStreams.{WorldKeeps, reached_kept}
 
 -- ---- at a site
 

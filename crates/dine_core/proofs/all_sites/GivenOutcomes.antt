@@ -14,8 +14,8 @@ use Rattle.dine_rules.specs.Holdings.{forks_held}
 use Rattle.dine_rules.specs.Outcomes.{jobs_with, sites_with, with_outcomes}
 use Rattle.dine_site_core.specs.Core.{SeenCore, Refines, kept_of, token_kept}
 use Rattle.dine_core.specs.Worlds.{lists_of}
-use Rattle.dine_rules.proofs.journals.OtherOutcomes.{jobs-same, plan-stays, resigns-same, sites-same}
-use Rattle.dine_rules.proofs.one_site.Site.{no_traffic_yet}
+use Rattle.dine_rules.proofs.shared.journals.OtherOutcomes.{jobs-same, plan-stays, resigns-same, sites-same}
+use Rattle.dine_rules.proofs.shared.one_site.Site.{no_traffic_yet}
 
 -- ---- lists of jobs and of sites
 

@@ -7,8 +7,8 @@ use Rattle.dine_rules.specs.World.{place_of}
 use Rattle.dine_rules.specs.Streams.{is_lower_at}
 use Rattle.dine_site_core.specs.LinkNumbers.{link_number_from}
 use Rattle.dine_core.specs.Worlds.{number_to}
-use Rattle.dine_rules.proofs.one_place.Placed.{placed}
-use Rattle.dine_rules.proofs.links.Across.{IsAcross, place_of-edge_at}
+use Rattle.dine_rules.proofs.shared.one_place.Placed.{placed}
+use Rattle.dine_rules.proofs.shared.links.Across.{IsAcross, place_of-edge_at}
 
 -- the number of the link that leads away from a site at place i
 abbrev pub number_from : SeenPlan → ℕ → ℕ → ℕ

@@ -7,8 +7,8 @@ use Rattle.dine_core.specs.declared.world.sites.WorldSite.{WorldSite}
 use Rattle.dine_rules.specs.Links.{queue_to}
 use Rattle.dine_rules.specs.Local.{traffic_at}
 use Rattle.dine_rules.specs.World.{WorldState, state_of}
-use Rattle.dine_rules.proofs.links.Links.{link_letters}
-use Rattle.dine_rules.proofs.links.WorldStreams.{reached_kept}
+use Rattle.dine_rules.proofs.shared.links.Links.{link_letters}
+use Rattle.dine_rules.proofs.shared.links.WorldStreams.{reached_kept}
 use Rattle.dine_site_core.specs.Core.{SeenCore, Refines}
 use Rattle.dine_site_core.specs.LinkNumbers.{link_to}
 use Rattle.dine_site_core.specs.Places.{place_at}
@@ -19,7 +19,7 @@ use Rattle.dine_site_core.specs.Said.{said_at}
 use Rattle.dine_core.proofs.all_sites.ForkPlaces.{degree_is, letters_read}
 use Rattle.dine_core.proofs.all_sites.LinkNumbers.{to_in_range}
 use Rattle.dine_core.proofs.all_sites.WorldOpened.{a_core}
-use Rattle.dine_site_core.proofs.one_site.Stands.{place_is}
+use Rattle.dine_site_core.proofs.shared.one_site.Stands.{place_is}
 
 -- what is said of a place, and of one that is not there
 pub said_there : {A : Type 0} (plan : SeenPlan) (s i : ℕ) (answer : A) → is_place plan s i ≡ true → at_place plan s i answer ≡ Some answer

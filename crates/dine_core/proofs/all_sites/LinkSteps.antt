@@ -10,8 +10,8 @@ use Rattle.dine_rules.specs.Links.{queue_to}
 use Rattle.dine_core.specs.WorldSites.{letters_in}
 use Rattle.dine_core.specs.private.StepsOfSites.{with_letter, without_next}
 use Rattle.dine_core.specs.Worlds.{AreLinksOf, number_to}
-use Rattle.dine_rules.proofs.links.Across.{across}
-use Rattle.dine_rules.proofs.links.WorldStreams.{WorldKeeps, prefix_short}
+use Rattle.dine_rules.proofs.shared.links.Across.{across}
+use Rattle.dine_rules.proofs.shared.links.WorldStreams.{WorldKeeps, prefix_short}
 use Rattle.dine_core.proofs.all_sites.LinkNumbers.{number_from, to_in_range, same_place, from_is_to, to_is_from, back_at}
 
 -- one more is dropped

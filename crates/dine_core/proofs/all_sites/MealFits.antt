@@ -18,8 +18,8 @@ use Rattle.dine_site_core.specs.Places.{no_place, neighbour_of, meals_in, FitsPl
 use Rattle.dine_core.specs.WorldSites.{IsSiteOf}
 use Rattle.dine_core.specs.private.StepsOfSites.{HasOwnMeal}
 use Rattle.dine_site_core.specs.Standing.{all_places}
-use Rattle.dine_rules.proofs.one_site.InHand.{hand-here, hand-meals}
-use Rattle.dine_site_core.proofs.one_site.Ending.{hands_at}
+use Rattle.dine_rules.proofs.shared.one_site.InHand.{hand-here, hand-meals}
+use Rattle.dine_site_core.proofs.shared.one_site.Ending.{hands_at}
 
 -- where every fork is held, there are as many in hand as places
 hands_count : (plan : SeenPlan) (s : ℕ) (state : LocalState) (n j : ℕ) → ((k : ℕ) → k < j + n → (fork_at plan s state k == 1) ≡ true)

@@ -19,7 +19,7 @@ use Rattle.dine_site_core.specs.Standing.{all_places}
 use Rattle.dine_rules.specs.World.{WorldState, state_of}
 use Rattle.dine_core.specs.Worlds.{SeenWorld, IsWorldOf, forks_seen}
 use Rattle.dine_core.specs.private.Forks.{absent_site, site_at, edge_ends, fork_in_slot, fork_at_site, fork_of_edge, IsPlaceOf, HasAllForks, AreForksOf, meal_ended_by, meal_ended}
-use Rattle.dine_site_core.proofs.one_site.Ending.{get_or_put_back, length_put_back}
+use Rattle.dine_site_core.proofs.shared.one_site.Ending.{get_or_put_back, length_put_back}
 use Rattle.dine_core.proofs.all_sites.MealFits.{count_is, hand_is}
 use Rattle.dine_core.proofs.all_sites.ForkPlaces.{world_site_fork, keeps, eats, has_all, forks_are}
 use Rattle.dine_core.proofs.all_sites.ForksOut.{same_four}

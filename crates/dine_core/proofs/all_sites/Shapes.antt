@@ -14,8 +14,8 @@ use Rattle.dine_rules.specs.Steps.{Step, Give, Ask, Hungry, Begin, End, Quit, Do
 use Rattle.dine_site_core.specs.Core.{SeenCore}
 use Rattle.dine_site_core.specs.Standing.{CorePuts}
 use Rattle.dine_core.specs.WorldSites.{meal_of}
-use Rattle.dine_rules.proofs.links.WorldStreams.{option_map_parts}
-use Rattle.dine_core.proofs.all_sites.OpenedSites.{meal-awake, meal-put, meal-taken}
+use Rattle.dine_rules.proofs.shared.links.WorldStreams.{option_map_parts}
+use Rattle.dine_core.proofs.shared.all_sites.OpenedSites.{meal-awake, meal-put, meal-taken}
 
 -- the place of a shape that puts
 abbrev place_put : Shape → ℕ

@@ -18,11 +18,11 @@ use Rattle.dine_rules.specs.Precedence.{fork_log}
 use Rattle.dine_rules.specs.Local.{LocalState}
 use Rattle.dine_rules.specs.Streams.{KeepsStreams}
 use Rattle.dine_rules.specs.World.{WorldState, place_of, state_of}
-use Rattle.dine_rules.proofs.ends_of_runs.ForkLogs.{log_in_hand}
-use Rattle.dine_rules.proofs.lists.Counting.{or_false}
-use Rattle.dine_rules.proofs.links.EdgeSums.{one_fork_of_edge, one_token_of_edge}
-use Rattle.dine_rules.proofs.links.WorldStreams.{WorldKeeps, reached_kept}
-use Rattle.dine_rules.proofs.precedence.Preference.{is_edge}
+use Rattle.dine_rules.proofs.shared.ends_of_runs.ForkLogs.{log_in_hand}
+use Rattle.dine_rules.proofs.shared.lists.Counting.{or_false}
+use Rattle.dine_rules.proofs.shared.links.EdgeSums.{one_fork_of_edge, one_token_of_edge}
+use Rattle.dine_rules.proofs.shared.links.WorldStreams.{WorldKeeps, reached_kept}
+use Rattle.dine_rules.proofs.shared.precedence.Preference.{is_edge}
 use Rattle.dine_site_core.specs.Core.{SeenCore, Refines}
 use Rattle.dine_site_core.specs.Standing.{ForEachState}
 use Rattle.dine_core.specs.Whereabouts.{IsForkAt, IsThere, IsTokenAt, ReportsWhere, at_edge, forks_at, forks_to, is_fork_dirty}

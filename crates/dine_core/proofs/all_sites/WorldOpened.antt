@@ -20,9 +20,9 @@ use Rattle.dine_rules.specs.World.{WorldState, no_state, state_of, start, place_
 use Rattle.dine_core.specs.Worlds.{SeenWorld, AreSitesOf, AreLinksOf, IsReached, IsWorldOf, number_to, ends_seen}
 use Rattle.dine_rules.specs.Bound.{bound_of, meals_due}
 use Rattle.dine_rules.specs.Links.{queue_to}
-use Rattle.dine_rules.proofs.links.Across.{place_of-edge_at, across}
-use Rattle.dine_rules.proofs.one_site.Site.{no_traffic_yet}
-use Rattle.dine_rules.proofs.links.WorldStreams.{reached_kept, start_state}
+use Rattle.dine_rules.proofs.shared.links.Across.{place_of-edge_at, across}
+use Rattle.dine_rules.proofs.shared.one_site.Site.{no_traffic_yet}
+use Rattle.dine_rules.proofs.shared.links.WorldStreams.{reached_kept, start_state}
 
 -- ---- edges and sums
 

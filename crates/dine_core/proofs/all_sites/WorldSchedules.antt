@@ -8,10 +8,10 @@ use Rattle.dine_rules.specs.Schedules.{Counted, rest_after, run_after, run_after
 use Rattle.dine_rules.specs.World.{WorldState, enabled_events, is_enabled, start, world_after}
 use Rattle.dine_core.specs.Worlds.{WorldSteps, IsReached, IsWorldOf, RunsTo, SeenWorld, can_happen}
 use Rattle.dine_core.proofs.all_sites.CanHappen.{can_happen_is}
-use Rattle.dine_rules.proofs.counting.Effects.{events_counted}
-use Rattle.dine_rules.proofs.counting.Enabled.{passes_at}
-use Rattle.dine_rules.proofs.counting.EffectBounds.{events_bounded}
-use Rattle.dine_rules.proofs.links.WorldStreams.{events_then}
+use Rattle.dine_rules.proofs.shared.counting.Effects.{events_counted}
+use Rattle.dine_rules.proofs.shared.counting.Enabled.{passes_at}
+use Rattle.dine_rules.proofs.shared.counting.EffectBounds.{events_bounded}
+use Rattle.dine_rules.proofs.shared.links.WorldStreams.{events_then}
 
 -- an event that is chosen can happen
 pub chosen_can : (plan : SeenPlan) (world : WorldState) (seen : SeenWorld) (k : ℕ) (e : Event) → IsWorldOf plan world seen → Some e ≡ slice_get (enabled_events plan world) k → can_happen seen e ≡ true

@@ -10,7 +10,7 @@ use Rattle.dine_rules.specs.Steps.{Step, shape_of}
 use Rattle.dine_core.specs.WorldSites.{can_do}
 use Rattle.dine_core.specs.private.StepsOfSites.{SiteSteps, HasOwnMeal, HasRoomFor, MovesLetters, TakesAllowed}
 use Rattle.dine_core.specs.Worlds.{WorldStep, IsWorldOf, SeenWorld, can_happen}
-use Rattle.dine_rules.proofs.links.WorldStreams.{some_of}
+use Rattle.dine_rules.proofs.shared.links.WorldStreams.{some_of}
 use Rattle.dine_core.proofs.all_sites.CanHappen.{can_happen_is}
 use Rattle.dine_core.proofs.all_sites.MealFits.{has_own_meal}
 use Rattle.dine_core.proofs.all_sites.WorldSteps.{eats_here, has_room, is_plan, letters_moved, takes_allowed, keeps_here, world_site_there, world_next}

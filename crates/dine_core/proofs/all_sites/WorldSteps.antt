@@ -23,14 +23,14 @@ use Rattle.dine_rules.specs.Links.{queue_to}
 use Rattle.dine_core.specs.WorldSites.{IsSiteOf, can_do, has_place, letters_in, next_in}
 use Rattle.dine_core.specs.private.StepsOfSites.{SiteSteps, PutsAt, HasRoomAt, HasRoomFor, MovesLetters, TakesAllowed, has_failed, meets_no_breach, step_in, with_letter, without_next}
 use Rattle.dine_core.specs.Worlds.{IsReached, IsWorldOf, AreLinksOf, AreSitesOf, SeenWorld, can_at, number_to}
-use Rattle.dine_rules.proofs.links.Across.{across}
+use Rattle.dine_rules.proofs.shared.links.Across.{across}
 use Rattle.dine_core.proofs.all_sites.CanHappen.{next_here}
-use Rattle.dine_site_core.proofs.one_site.SiteTests.{take_is}
-use Rattle.dine_rules.proofs.links.NextLetters.{reached_allowed}
-use Rattle.dine_site_core.proofs.one_site.Stands.{place_is}
-use Rattle.dine_rules.proofs.links.WorldStreams.{IsStepOf, WorldKeeps, event_is_step, event_keeps, events_then, reached_kept}
-use Rattle.dine_rules.proofs.links.EatersApart.{eats_with_all}
-use Rattle.dine_rules.proofs.links.Links.{link_letters}
+use Rattle.dine_site_core.proofs.shared.one_site.SiteTests.{take_is}
+use Rattle.dine_rules.proofs.shared.links.NextLetters.{reached_allowed}
+use Rattle.dine_site_core.proofs.shared.one_site.Stands.{place_is}
+use Rattle.dine_rules.proofs.shared.links.WorldStreams.{IsStepOf, WorldKeeps, event_is_step, event_keeps, events_then, reached_kept}
+use Rattle.dine_rules.proofs.shared.links.EatersApart.{eats_with_all}
+use Rattle.dine_rules.proofs.shared.links.Links.{link_letters}
 use Rattle.dine_core.proofs.all_sites.LinkNumbers.{from_is_to, number_from, to_in_range}
 use Rattle.dine_core.proofs.all_sites.Shapes.{Does, does, step_alike}
 use Rattle.dine_core.proofs.all_sites.LinkSteps.{links-put, links-same, links-taken}

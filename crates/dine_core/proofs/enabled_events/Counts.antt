@@ -13,13 +13,13 @@ use Rattle.dine_rules.specs.World.{WorldState, events_at, is_enabled, kinds_at}
 use Rattle.dine_core.specs.declared.world.sites.WorldSite.{WorldSite}
 use Rattle.dine_core.specs.private.Counts.{HasCounts, kinds_now, kinds_now_at}
 use Rattle.dine_core.specs.Worlds.{IsWorldOf, SeenWorld, can_at, can_happen}
-use Rattle.dine_graph.proofs.ListLemmas.{length-filter-le}
-use Rattle.dine_rules.proofs.counting.KindNumbers.{choices, choices_count, found_at, of_sites}
+use Rattle.dine_graph.proofs.shared.ListLemmas.{length-filter-le}
+use Rattle.dine_rules.proofs.shared.counting.KindNumbers.{choices, choices_count, found_at, of_sites}
 use Rattle.dine_core.proofs.enabled_events.FirstSite.{past_full}
 use Rattle.dine_core.proofs.all_sites.CanHappen.{site_at}
 use Rattle.dine_core.proofs.enabled_events.EnabledEvents.{degree_is, edges_few, enabled_at}
 use Rattle.dine_core.proofs.enabled_events.FirstEvents.{event_of}
-use Rattle.dine_site_core.proofs.own_events.NextEvents.{filter-map}
+use Rattle.dine_site_core.proofs.shared.own_events.NextEvents.{filter-map}
 
 -- ---- the events of a site, as events of the world
 

@@ -7,10 +7,10 @@ use Rattle.dine_graph.specs.Plan.{SeenPlan, edge_count, edges_of, is_end, site_c
 use Rattle.dine_core.specs.declared.world.sites.WorldSite.{WorldSite}
 use Rattle.dine_rules.specs.World.{WorldState, events_at, is_enabled}
 use Rattle.dine_core.specs.Worlds.{IsWorldOf, SeenWorld, can_happen}
-use Rattle.dine_rules.proofs.counting.KindNumbers.{choices}
+use Rattle.dine_rules.proofs.shared.counting.KindNumbers.{choices}
 use Rattle.dine_core.proofs.all_sites.CanHappen.{can_happen_is}
-use Rattle.dine_site_core.proofs.one_site.Opened.{filter_few}
-use Rattle.dine_rules.proofs.links.WorldStreams.{WorldKeeps, reached_kept}
+use Rattle.dine_site_core.proofs.shared.one_site.Opened.{filter_few}
+use Rattle.dine_rules.proofs.shared.links.WorldStreams.{WorldKeeps, reached_kept}
 
 module _ (plan : SeenPlan) (world : WorldState) (seen : SeenWorld) (is : IsWorldOf plan world seen) where
   -- a site has as many places as edges

@@ -25,9 +25,9 @@ use Rattle.dine_site_core.specs.Places.{neighbour_of, place_at}
 use Rattle.dine_core.specs.WorldSites.{can_do, has_place, next_in}
 use Rattle.dine_core.specs.private.StepsOfSites.{MovesLetters}
 use Rattle.dine_core.specs.Worlds.{IsWorldOf, SeenWorld, can_at, can_happen, number_to}
-use Rattle.dine_rules.proofs.links.Across.{across}
+use Rattle.dine_rules.proofs.shared.links.Across.{across}
 use Rattle.dine_core.proofs.all_sites.LinkNumbers.{from_is_to, same_place}
-use Rattle.dine_site_core.proofs.one_site.Stands.{place_is}
+use Rattle.dine_site_core.proofs.shared.one_site.Stands.{place_is}
 use Rattle.dine_core.proofs.all_sites.WorldSteps.{as_many_places, from_is, to_is, world_site_there}
 
 -- ---- the set with the receiver

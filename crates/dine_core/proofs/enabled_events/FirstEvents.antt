@@ -18,10 +18,10 @@ use Rattle.dine_site_core.specs.NextEvent.{can_by_itself, next_of, own_kinds}
 use Rattle.dine_site_core.specs.Places.{can_ask, can_close, can_give, can_say_done}
 use Rattle.dine_core.specs.WorldSites.{can_do, next_in}
 use Rattle.dine_core.specs.Worlds.{IsWorldOf, SeenWorld, can_at, can_happen}
-use Rattle.dine_rules.proofs.counting.KindNumbers.{choices, found_at, more_sites, of_sites}
+use Rattle.dine_rules.proofs.shared.counting.KindNumbers.{choices, found_at, more_sites, of_sites}
 use Rattle.dine_core.proofs.all_sites.CanHappen.{can_happen_is}
 use Rattle.dine_core.proofs.enabled_events.EnabledEvents.{degree_is, enabled_at}
-use Rattle.dine_site_core.proofs.own_events.NextEvents.{bounded, filter_first, find-map, find_same}
+use Rattle.dine_site_core.proofs.shared.own_events.NextEvents.{bounded, filter_first, find-map, find_same}
 
 -- ---- two tests that agree find the same
 

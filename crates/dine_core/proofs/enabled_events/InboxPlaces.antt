@@ -12,8 +12,8 @@ use Rattle.dine_rules.specs.World.{WorldState}
 use Rattle.dine_rules.specs.declared.events.EventKind.TheVariants as event
 use Rattle.dine_rules.specs.declared.letters.Letter.{Letter}
 use Rattle.dine_set.specs.Marks.{marks_of, nth_position}
-use Rattle.dine_set.proofs.MarksOf.{count_by-marks_of, nth_position-marks_of}
-use Rattle.dine_set.proofs.NthPosition.{nth_position-zero}
+use Rattle.dine_set.proofs.shared.MarksOf.{count_by-marks_of, nth_position-marks_of}
+use Rattle.dine_set.proofs.shared.NthPosition.{nth_position-zero}
 use Rattle.dine_core.specs.declared.world.sites.WorldSite.{WorldSite}
 use Rattle.dine_core.specs.private.EnabledSites.{first_kind, first_kind_at}
 use Rattle.dine_site_core.specs.Core.{SeenCore}
@@ -21,9 +21,9 @@ use Rattle.dine_core.specs.private.Inboxes.{HasInboxes}
 use Rattle.dine_site_core.specs.NextEvent.{next_of}
 use Rattle.dine_core.specs.WorldSites.{can_do, next_in}
 use Rattle.dine_core.specs.Worlds.{IsWorldOf, SeenWorld, can_at}
-use Rattle.dine_site_core.proofs.one_site.Degrees.{degree_few}
+use Rattle.dine_site_core.proofs.shared.one_site.Degrees.{degree_few}
 use Rattle.dine_core.proofs.enabled_events.FirstEvents.{first_spelled}
-use Rattle.dine_site_core.proofs.own_events.NextEvents.{filter_first}
+use Rattle.dine_site_core.proofs.shared.own_events.NextEvents.{filter_first}
 use Rattle.dine_core.proofs.all_sites.WorldSteps.{as_many_places}
 use Rattle.dine_core.proofs.enabled_events.Inboxes.{none_in}
 

@@ -22,11 +22,11 @@ use Rattle.dine_site_core.specs.Places.{place_at}
 use Rattle.dine_core.specs.WorldSites.{can_do, has_place, next_in}
 use Rattle.dine_core.specs.private.StepsOfSites.{MovesLetters}
 use Rattle.dine_core.specs.Worlds.{IsWorldOf, SeenWorld, can_at, can_happen, ends_seen, number_to}
-use Rattle.dine_rules.proofs.links.Across.{across, place_of-edge_at}
-use Rattle.dine_rules.proofs.one_place.Placed.{placed}
+use Rattle.dine_rules.proofs.shared.links.Across.{across, place_of-edge_at}
+use Rattle.dine_rules.proofs.shared.one_place.Placed.{placed}
 use Rattle.dine_core.proofs.enabled_events.EnabledSites.{get_other, has_its_place}
 use Rattle.dine_core.proofs.all_sites.CanHappen.{site_at}
-use Rattle.dine_site_core.proofs.one_site.Degrees.{degree_few}
+use Rattle.dine_site_core.proofs.shared.one_site.Degrees.{degree_few}
 use Rattle.dine_core.proofs.all_sites.LinkNumbers.{from_is_to, same_place}
 use Rattle.dine_core.proofs.all_sites.WorldSteps.{as_many_places, from_is, to_is}
 use Rattle.dine_core.proofs.all_sites.WorldStepped.{site_within}

@@ -19,7 +19,7 @@ use Rattle.dine_site_core.specs.NextEvent.{can_by_itself, own_kinds}
 use Rattle.dine_core.specs.WorldSites.{can_do, next_in}
 use Rattle.dine_core.specs.Worlds.{IsWorldOf, SeenWorld}
 use Rattle.dine_set.specs.Marks.{nth_position}
-use Rattle.dine_site_core.proofs.own_events.NextEvents.{filter-map}
+use Rattle.dine_site_core.proofs.shared.own_events.NextEvents.{filter-map}
 use Rattle.dine_core.proofs.enabled_events.InboxPlaces.{count_by_set, nth_by_set}
 
 agree_in : (p q : ℕ → Bool) (a n : ℕ) → ((i : ℕ) → i < a + n → p i ≡ q i) → filter p (range_with_len a n) ≡ filter q (range_with_len a n)

@@ -75,7 +75,7 @@ fn next_kind<J: AsSlice<EventKind>>(journals: &[J], counts: &[u32], site: u32) -
 }
 
 // Counts an event that was placed. The site that gets a letter by it may be ready now, and is put into the set.
-#[tactic(auto, using(crate::proofs::Shown::sites_shown))]
+#[tactic(auto, using(crate::proofs::shared::Shown::sites_shown))]
 fn note(plan: &Plan, event: Event, counts: &mut [u32], untried: &mut BitSet64)
     requires { (lists : List (List EventKind)) × (placed : List Event) × (seen : SeenWorld)
         × IsFound (plan_shown plan.now lists) lists placed counts.old untried.old event seen }

@@ -9,9 +9,9 @@ use Rattle.dine_rules.specs.declared.events.Event.{Event}
 use Rattle.dine_rules.specs.World.{WorldState, start, world_after, enabled_events, Reaches}
 use Rattle.dine_rules.specs.Bound.{bound_of, effects_of, meals_due}
 use Rattle.dine_rules.specs.Schedules.{Counted, run_after, run_after_choice, replay, rest_after, finish_within, from_here, whole_run, after_choices}
-use Rattle.dine_rules.proofs.counting.Effects.{events_counted}
-use Rattle.dine_rules.proofs.counting.EffectBounds.{events_bounded}
-use Rattle.dine_rules.proofs.ends_of_runs.Finishing.{choice_leads}
+use Rattle.dine_rules.proofs.shared.counting.Effects.{events_counted}
+use Rattle.dine_rules.proofs.shared.counting.EffectBounds.{events_bounded}
+use Rattle.dine_rules.proofs.shared.ends_of_runs.Finishing.{choice_leads}
 
 -- ---- a run counts its events
 

@@ -20,11 +20,11 @@ use Rattle.dine_rules.specs.Local.{LocalState, Traffic, no_traffic, start_of, tr
 use Rattle.dine_rules.specs.StepLists.{LeadTo, begins_in, is_give_at}
 use Rattle.dine_rules.specs.Steps.{Step, Take, Takes, after, may}
 use Rattle.dine_rules.specs.World.{Reaches, WorldState, start, state_of}
-use Rattle.dine_rules.proofs.counting.Persistence.{set_cases}
-use Rattle.dine_rules.proofs.links.WorldStreams.{next_of, start_state}
+use Rattle.dine_rules.proofs.shared.counting.Persistence.{set_cases}
+use Rattle.dine_rules.proofs.shared.links.WorldStreams.{next_of, start_state}
 use Rattle.dine_rules.proofs.one_site.Askers.{IsAskedNow, asked_now, asker_first, asker_next}
-use Rattle.dine_rules.proofs.one_site.Shapes.{by_moves, moved, step_shape}
-use Rattle.dine_rules.proofs.one_site.Site.{no_traffic_yet}
+use Rattle.dine_rules.proofs.shared.one_site.Shapes.{by_moves, moved, step_shape}
+use Rattle.dine_rules.proofs.shared.one_site.Site.{no_traffic_yet}
 use Rattle.dine_rules.proofs.journals.Going.{Go, IsStepFor, events_go, go_ate, go_cut, journal_goes}
 
 -- an event gives a fork if its step does

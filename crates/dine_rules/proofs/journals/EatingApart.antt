@@ -18,9 +18,9 @@ use Rattle.dine_rules.specs.Steps as step
 use Rattle.dine_rules.specs.Steps.{Step, after, may, step_by}
 use Rattle.dine_rules.specs.World.{WorldState, Reaches, after_events, next_letter, no_state, start, state_of, world_after}
 use Rattle.dine_rules.proofs.journals.Parts.{part-other, part-same}
-use Rattle.dine_rules.proofs.links.Across.{across}
-use Rattle.dine_rules.proofs.links.EatersApart.{eater_alone}
-use Rattle.dine_rules.proofs.links.WorldStreams.{IsStepOf, WorldKeeps, and_then_parts, event_is_step, event_keeps, option_map_parts, start_kept, start_state}
+use Rattle.dine_rules.proofs.shared.links.Across.{across}
+use Rattle.dine_rules.proofs.shared.links.EatersApart.{eater_alone}
+use Rattle.dine_rules.proofs.shared.links.WorldStreams.{IsStepOf, WorldKeeps, and_then_parts, event_is_step, event_keeps, option_map_parts, start_kept, start_state}
 
 not_while_thinking : (p : Phase) → is_thinking p ≡ true → is_eating p ≡ false
 not_while_thinking phase.Thinking h = refl

@@ -14,10 +14,10 @@ use Rattle.dine_rules.specs.Local.{LocalState, meal_fails}
 use Rattle.dine_rules.specs.Steps as its
 use Rattle.dine_rules.specs.Steps.{Begin, Step, Take, Takes, after, may, step_by}
 use Rattle.dine_rules.specs.World.{WorldState, after_events, next_letter, no_state, state_of, world_after}
-use Rattle.dine_rules.proofs.journals.JournalStates.{own_step}
+use Rattle.dine_rules.proofs.shared.journals.JournalStates.{own_step}
 use Rattle.dine_rules.proofs.journals.Parts.{part-other, part-same}
-use Rattle.dine_rules.proofs.links.WorldStreams.{event_is_step}
-use Rattle.dine_rules.proofs.lists.Options.{and_then_parts, option_map_parts}
+use Rattle.dine_rules.proofs.shared.links.WorldStreams.{event_is_step}
+use Rattle.dine_rules.proofs.shared.lists.Options.{and_then_parts, option_map_parts}
 
 -- ---- an event and its step
 

@@ -12,12 +12,12 @@ use Rattle.dine_rules.specs.declared.phase.Phase.TheVariants.{Thinking}
 use Rattle.dine_rules.specs.Local.{LocalState, Traffic, is_eating, is_thinking, no_traffic, start_of, traffic_at}
 use Rattle.dine_rules.specs.Steps.{Step, Give, Ask, Hungry, Begin, End, Quit, Done, Close, Take, after, drops_jobs, may, step_by}
 use Rattle.dine_rules.specs.Journals.{IsJournal, fails_before, next_of_these, state_after, state_after_all}
-use Rattle.dine_rules.proofs.journals.JournalStates.{by_own_step, own_step}
-use Rattle.dine_rules.proofs.lists.Options.{and_then_parts, option_map_parts}
-use Rattle.dine_rules.proofs.counting.Persistence.{IsLonger, longer_get, longer_same, set_cases}
-use Rattle.dine_rules.proofs.one_place.Keeping.{hungry_not_thinking}
-use Rattle.dine_rules.proofs.one_site.SiteSteps.{not_thinking_while_eating}
-use Rattle.dine_rules.proofs.one_site.Shapes.{by_moves, moved, step_shape}
+use Rattle.dine_rules.proofs.shared.journals.JournalStates.{by_own_step, own_step}
+use Rattle.dine_rules.proofs.shared.lists.Options.{and_then_parts, option_map_parts}
+use Rattle.dine_rules.proofs.shared.counting.Persistence.{IsLonger, longer_get, longer_same, set_cases}
+use Rattle.dine_rules.proofs.shared.one_place.Keeping.{hungry_not_thinking}
+use Rattle.dine_rules.proofs.shared.one_site.SiteSteps.{not_thinking_while_eating}
+use Rattle.dine_rules.proofs.shared.one_site.Shapes.{by_moves, moved, step_shape}
 
 -- ---- the letters that a site takes only grow
 

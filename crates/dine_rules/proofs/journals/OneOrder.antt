@@ -13,8 +13,8 @@ use Rattle.dine_rules.specs.Steps.{after}
 use Rattle.dine_rules.specs.World.{WorldState, IsComplete, Reaches, after_events, is_enabled, start, state_of, world_after}
 use Rattle.dine_rules.specs.Journals.{IsFrontOf, IsOrderOf, IsPlacedToEnd, IsWholeOrder, can_follow, is_ready, journal_of, next_of, part_of}
 use Rattle.dine_rules.proofs.journals.Parts.{part-other, part-same, same_event}
-use Rattle.dine_rules.proofs.counting.Persistence.{event_stays}
-use Rattle.dine_rules.proofs.links.WorldStreams.{and_then_parts, event_is_step}
+use Rattle.dine_rules.proofs.shared.counting.Persistence.{event_stays}
+use Rattle.dine_rules.proofs.shared.links.WorldStreams.{and_then_parts, event_is_step}
 
 -- Two enabled events of different sites lead to one world, whichever comes first.
 pub record LeadToOne (plan : SeenPlan) (one two : WorldState) (e f : Event) : Type 0 where

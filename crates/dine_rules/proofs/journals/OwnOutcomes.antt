@@ -15,12 +15,12 @@ use Rattle.dine_rules.specs.Local.{LocalState, is_eating, meal_fails, start_of}
 use Rattle.dine_rules.specs.Shown.{ResignAsPlanned, plan_shown, shown_by}
 use Rattle.dine_rules.specs.Steps.{End, Step, may, step_by}
 use Rattle.dine_rules.specs.World.{Reaches, WorldState, after_events, local_after, next_letter, start, state_of, step_of, world_after}
-use Rattle.dine_rules.proofs.journals.JournalStates.{Shows, ShowsEach, ended, shows_now, shows_on}
-use Rattle.dine_rules.proofs.journals.OtherOutcomes.{complete-same, jobs-same, plan-stays, start-same, step-same, world_by_site}
+use Rattle.dine_rules.proofs.shared.journals.JournalStates.{Shows, ShowsEach, ended, shows_now, shows_on}
+use Rattle.dine_rules.proofs.shared.journals.OtherOutcomes.{complete-same, jobs-same, plan-stays, start-same, step-same, world_by_site}
 use Rattle.dine_rules.proofs.journals.Parts.{part-same}
-use Rattle.dine_rules.proofs.journals.Shown.{fail_as_shown, sites_shown}
-use Rattle.dine_rules.proofs.links.WorldStreams.{WorldKeeps, event_is_step, event_keeps, start_kept, start_state}
-use Rattle.dine_rules.proofs.lists.Options.{and_then_parts}
+use Rattle.dine_rules.proofs.shared.journals.Shown.{fail_as_shown, sites_shown}
+use Rattle.dine_rules.proofs.shared.links.WorldStreams.{WorldKeeps, event_is_step, event_keeps, start_kept, start_state}
+use Rattle.dine_rules.proofs.shared.lists.Options.{and_then_parts}
 
 -- a failure counts only at a site that resigns and has jobs left
 counts_only : (f g resigns left : Bool) → (resigns ≡ true → left ≡ true → f ≡ g) → (f && resigns && left) ≡ (g && resigns && left)

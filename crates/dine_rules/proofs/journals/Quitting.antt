@@ -8,7 +8,7 @@ use Rattle.dine_rules.specs.declared.events.EventKind.TheVariants as event
 use Rattle.dine_rules.specs.Journals.{IsJournal, fails_before, outcomes_in}
 use Rattle.dine_rules.specs.Local.{LocalState, Traffic, is_eating, is_hungry, is_thinking, start_of, traffic_at}
 use Rattle.dine_rules.specs.Steps.{Step, after, may}
-use Rattle.dine_rules.proofs.counting.Effects.{eating_counts, hungry_counts, thinking_counts}
+use Rattle.dine_rules.proofs.shared.counting.Effects.{eating_counts, hungry_counts, thinking_counts}
 use Rattle.dine_rules.proofs.journals.Going.{Go, IsStepFor, go_ate, journal_goes}
 
 -- the site ended n meals

@@ -12,10 +12,10 @@ use Rattle.dine_rules.specs.Local.{LocalState, Traffic, edge_at, meal_fails, nei
 use Rattle.dine_rules.specs.Breach.{is_allowed}
 use Rattle.dine_rules.specs.Steps.{End, Puts, Step, Take, after, shape_of}
 use Rattle.dine_rules.specs.World.{Reaches, WorldState, is_enabled, local_after, next_letter, no_state, place_of, put_to, site_after, state_of, step_of, world_after}
-use Rattle.dine_rules.proofs.links.Across.{across}
-use Rattle.dine_rules.proofs.counting.Persistence.{set_cases, state_stays}
-use Rattle.dine_rules.proofs.one_site.Shapes.{by_moves, moved, shape_is, step_shape}
-use Rattle.dine_rules.proofs.links.WorldStreams.{IsStepOf, WorldKeeps, event_is_step, reached_kept}
+use Rattle.dine_rules.proofs.shared.links.Across.{across}
+use Rattle.dine_rules.proofs.shared.counting.Persistence.{set_cases, state_stays}
+use Rattle.dine_rules.proofs.shared.one_site.Shapes.{by_moves, moved, shape_is, step_shape}
+use Rattle.dine_rules.proofs.shared.links.WorldStreams.{IsStepOf, WorldKeeps, event_is_step, reached_kept}
 
 -- at a place where it puts no letter, a step leaves what was put
 puts_elsewhere : (plan : SeenPlan) (s : ℕ) (state : LocalState) (step : Step) (j : ℕ) → step_shape step ≢ Puts j → (traffic_at (after plan s state step) j).put ≡ (traffic_at state j).put

@@ -4,7 +4,7 @@ use Rattle.std.proofs.lemmas.Bool.{and_from, or_cases, or_left, or_right, cases_
 use Rattle.dine_token.specs.declared.log_entry.Entry.{Entry}
 use Rattle.dine_token.specs.Fork.{SeenFork}
 use Rattle.dine_token.specs.Log.{is_dirty, location_of, meals_of}
-use Rattle.dine_token.proofs.Logs.{is_dirty-push_move, location_of-push_move, meals_of-push_move}
+use Rattle.dine_token.proofs.shared.Logs.{is_dirty-push_move, location_of-push_move, meals_of-push_move}
 use Rattle.dine_graph.specs.Plan.{SeenPlan, job_count, lo_of, resigns}
 use Rattle.dine_rules.specs.declared.letters.Letter.{Letter}
 use Rattle.dine_rules.specs.declared.letters.Letter.TheVariants.{Fork, Request, Done, Close}
@@ -13,12 +13,12 @@ use Rattle.dine_rules.specs.Local.{LocalState, traffic_at, edge_at, neighbour_at
 use Rattle.dine_rules.specs.Holdings.{fork_at, token_at, hand_at}
 use Rattle.dine_rules.specs.Breach.{was_sent_to, is_fork_of, has_all_of_neighbour, may_come, is_allowed}
 use Rattle.dine_rules.specs.Streams.{KeepsStreamsAt, is_lower_at, is_alternating, is_done_last, is_close_last, is_orderly}
-use Rattle.dine_rules.proofs.lists.Counting.{has_done-append, has_close-append, last_log_or-append, last_log_or-none}
+use Rattle.dine_rules.proofs.shared.lists.Counting.{has_done-append, has_close-append, last_log_or-append, last_log_or-none}
 use Rattle.dine_rules.proofs.one_site.PutBounds.{waiter_has_left}
-use Rattle.dine_rules.proofs.links.Joined.{Joined, one_lower, one_fork, one_token, forks_coming, requests_going}
-use Rattle.dine_rules.proofs.lists.Turns.{slice_get-behind, turn_of_request, turn_of_fork, open_before, not_done_before_request, not_done_before_done, done_before_close}
-use Rattle.dine_rules.proofs.one_site.InOrder.{KeepsOrder}
-use Rattle.dine_rules.proofs.one_place.Sent.{IsSent, last_sent, meals_of-with_meals_other}
+use Rattle.dine_rules.proofs.shared.links.Joined.{Joined, one_lower, one_fork, one_token, forks_coming, requests_going}
+use Rattle.dine_rules.proofs.shared.lists.Turns.{slice_get-behind, turn_of_request, turn_of_fork, open_before, not_done_before_request, not_done_before_done, done_before_close}
+use Rattle.dine_rules.proofs.shared.one_site.InOrder.{KeepsOrder}
+use Rattle.dine_rules.proofs.shared.one_place.Sent.{IsSent, last_sent, meals_of-with_meals_other}
 
 -- ---- numbers
 

@@ -12,8 +12,8 @@ use Rattle.dine_rules.specs.declared.letters.Letter.{Letter}
 use Rattle.dine_rules.specs.Steps.{Step, Break, Take, after, may, step_by}
 use Rattle.dine_rules.specs.Streams.{KeepsStreams}
 use Rattle.dine_rules.specs.World.{WorldState, no_state, state_of, start, next_letter, world_after, after_events, Reaches}
-use Rattle.dine_rules.proofs.lists.Options.{and_then_parts, option_map_parts}
-use Rattle.dine_rules.proofs.links.WorldStreams.{WorldKeeps, event_is_step, event_keeps, start_kept, start_state}
+use Rattle.dine_rules.proofs.shared.lists.Options.{and_then_parts, option_map_parts}
+use Rattle.dine_rules.proofs.shared.links.WorldStreams.{WorldKeeps, event_is_step, event_keeps, start_kept, start_state}
 
 -- each step but a Break is one of a site that ends in order
 abbrev pub IsInOrder : Step → Type 0

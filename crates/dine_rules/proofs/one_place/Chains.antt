@@ -7,8 +7,8 @@ use Rattle.dine_token.specs.declared.log_entry.Entry.TheVariants.{Move}
 use Rattle.dine_token.specs.Log.{is_dirty, meals_of}
 use Rattle.dine_rules.specs.Holdings.{meals_from, with_meals_to}
 use Rattle.dine_rules.specs.Streams.{CarriesOn, CarriesOnTaken}
-use Rattle.dine_rules.proofs.lists.Counting.{slice_get-push, slice_get-before}
-use Rattle.dine_rules.proofs.one_place.Hands.{with_meals, hand-eaten}
+use Rattle.dine_rules.proofs.shared.lists.Counting.{slice_get-push, slice_get-before}
+use Rattle.dine_rules.proofs.shared.one_place.Hands.{with_meals, hand-eaten}
 
 -- the chain of an end, over the logs put and taken
 pub record Chained (s to : ℕ) (from_lower : Bool) (put taken : List (List Entry)) : Type 0 where

@@ -5,12 +5,12 @@ use Rattle.dine_token.specs.declared.log_entry.Entry.{Entry}
 use Rattle.dine_token.specs.declared.log_entry.Entry.TheVariants.{Meal, Move}
 use Rattle.dine_token.specs.Log.{is_dirty, location_of, meals_of, moves_of}
 use Rattle.dine_token.specs.Lawful.{IsLawful, due_at}
-use Rattle.dine_token.proofs.Logs.{is_dirty-push_meal, location_of-push_meal, meals_of-push_other, meals_of-push_move, turn}
-use Rattle.dine_token.proofs.Lawfulness.{at_an_end, due_at-lower, due_at-higher, IsLawful-push_meal, IsLawful-push_move}
+use Rattle.dine_token.proofs.shared.Logs.{is_dirty-push_meal, location_of-push_meal, meals_of-push_other, meals_of-push_move, turn}
+use Rattle.dine_token.proofs.shared.Lawfulness.{at_an_end, due_at-lower, due_at-higher, IsLawful-push_meal, IsLawful-push_move}
 use Rattle.dine_rules.specs.declared.phase.Phase.{Phase}
 use Rattle.dine_rules.specs.Local.{is_hungry}
 use Rattle.dine_rules.specs.Holdings.{with_meals_to}
-use Rattle.dine_rules.proofs.one_place.Hands.{hand-same, meals_of-hand, hand-more}
+use Rattle.dine_rules.proofs.shared.one_place.Hands.{hand-same, meals_of-hand, hand-more}
 
 -- ---- the place
 

@@ -5,7 +5,7 @@ use Rattle.std.proofs.lemmas.Bool.{true≢false, and_parts, or_parts, or_cases, 
 use Rattle.std.proofs.lemmas.List.{get_or-set_same, get_or-set_other, length-set}
 use Rattle.dine_token.specs.declared.log_entry.Entry.{Entry}
 use Rattle.dine_token.specs.Log.{is_dirty, meals_of}
-use Rattle.dine_token.proofs.Logs.{is_dirty-push_meal}
+use Rattle.dine_token.proofs.shared.Logs.{is_dirty-push_meal}
 use Rattle.dine_graph.specs.Plan.{SeenPlan, edges_of, lo_of, hi_of}
 use Rattle.dine_rules.specs.declared.letters.Letter.{Letter}
 use Rattle.dine_rules.specs.declared.letters.Letter.TheVariants as letter
@@ -14,11 +14,11 @@ use Rattle.dine_rules.specs.Local.{LocalState, Traffic, no_traffic, traffic_at, 
 use Rattle.dine_rules.specs.Holdings.{forks_held, tokens_held, fork_at, token_at, hand_at, with_meals_to}
 use Rattle.dine_rules.specs.Steps.{Step, Give, Ask, Hungry, Begin, End, Quit, Done, Close, Break, Take, IsPlaceWithin, after, may, is_ready, with_put}
 use Rattle.dine_rules.specs.StepLists.{LeadTo, begins_in, is_give_at}
-use Rattle.dine_rules.proofs.lists.Counting.{none_is_not_one, forks_in-append, requests_in-append, last_log_or-append}
-use Rattle.dine_rules.proofs.one_place.Hands.{hand-more}
-use Rattle.dine_rules.proofs.one_site.Site.{no_traffic_yet}
-use Rattle.dine_rules.proofs.one_site.Shapes.{by_moves, may_within, moved, step_shape}
-use Rattle.dine_rules.proofs.one_site.SiteSteps.{list_all-range}
+use Rattle.dine_rules.proofs.shared.lists.Counting.{none_is_not_one, forks_in-append, requests_in-append, last_log_or-append}
+use Rattle.dine_rules.proofs.shared.one_place.Hands.{hand-more}
+use Rattle.dine_rules.proofs.shared.one_site.Site.{no_traffic_yet}
+use Rattle.dine_rules.proofs.shared.one_site.Shapes.{by_moves, may_within, moved, step_shape}
+use Rattle.dine_rules.proofs.shared.one_site.SiteSteps.{list_all-range}
 
 -- ---- the meals in what was taken
 

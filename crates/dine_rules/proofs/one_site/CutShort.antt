@@ -12,10 +12,10 @@ use Rattle.dine_rules.specs.Holdings.{forks_held}
 use Rattle.dine_rules.specs.Letters.{forks_among, forks_in, has_close, has_done, last_log_or, requests_in}
 use Rattle.dine_rules.specs.Local.{LocalState, edge_at, traffic_at}
 use Rattle.dine_rules.specs.Streams.{CarriesOnTaken, IsPutInOrder, KeepsStreams, is_alternating, is_close_last, is_done_last, is_lower_at, logs_of}
-use Rattle.dine_rules.proofs.lists.Counting.{forks_in-append, has_close-append, has_done-append, last_log_or-append, last_log_or-none, logs_of-append, requests_in-append, slice_get-before, slice_get-push}
-use Rattle.dine_rules.proofs.lists.Forks.{forks_among-before}
-use Rattle.dine_rules.proofs.one_place.Values.{values_along, values-put}
-use Rattle.dine_rules.proofs.lists.Turns.{open_before, stream-push_close}
+use Rattle.dine_rules.proofs.shared.lists.Counting.{forks_in-append, has_close-append, has_done-append, last_log_or-append, last_log_or-none, logs_of-append, requests_in-append, slice_get-before, slice_get-push}
+use Rattle.dine_rules.proofs.shared.lists.Forks.{forks_among-before}
+use Rattle.dine_rules.proofs.shared.one_place.Values.{values_along, values-put}
+use Rattle.dine_rules.proofs.shared.lists.Turns.{open_before, stream-push_close}
 
 -- ---- a front of a stream
 

@@ -6,7 +6,7 @@ use Rattle.dine_token.specs.declared.log_entry.Entry.{Entry}
 use Rattle.dine_token.specs.declared.log_entry.Entry.TheVariants.{Move}
 use Rattle.dine_token.specs.Fork.{SeenFork}
 use Rattle.dine_token.specs.Log.{is_dirty, location_of, meals_of}
-use Rattle.dine_token.proofs.Logs.{is_dirty-push_move, location_of-push_move}
+use Rattle.dine_token.proofs.shared.Logs.{is_dirty-push_move, location_of-push_move}
 use Rattle.dine_graph.specs.Plan.{SeenPlan, job_count, lo_of, hi_of, resigns}
 use Rattle.dine_rules.specs.declared.letters.Letter.{Letter}
 use Rattle.dine_rules.specs.declared.letters.Letter.TheVariants.{Fork, Request, Done, Close}

@@ -4,7 +4,7 @@ use Rattle.std.proofs.lemmas.Bool.{false≢true, and_parts, not-true, or_cases, 
 use Rattle.dine_token.specs.declared.log_entry.Entry.{Entry}
 use Rattle.dine_token.specs.declared.log_entry.Entry.TheVariants.{Move}
 use Rattle.dine_token.specs.Log.{is_dirty, location_of}
-use Rattle.dine_token.proofs.Logs.{clean_ends_in_move, location_of-push_move}
+use Rattle.dine_token.proofs.shared.Logs.{clean_ends_in_move, location_of-push_move}
 use Rattle.dine_graph.specs.Plan.{SeenPlan, IsPlan, site_count, job_count}
 use Rattle.dine_rules.specs.declared.letters.Letter.{Letter}
 use Rattle.dine_rules.specs.declared.letters.Letter.TheVariants.{Fork, Request, Done, Close}
@@ -13,7 +13,7 @@ use Rattle.dine_rules.specs.Local.{LocalState, traffic_at, is_hungry}
 use Rattle.dine_rules.specs.Holdings.{fork_at, token_at, hand_at}
 use Rattle.dine_rules.specs.Breach.{was_sent_to}
 use Rattle.dine_rules.specs.Streams.{KeepsStreams, KeepsStreamsAt, is_lower_at, has_asked_since_meal, is_done_last, is_close_last}
-use Rattle.dine_rules.proofs.lists.Counting.{forks_in_turn}
+use Rattle.dine_rules.proofs.shared.lists.Counting.{forks_in_turn}
 
 -- a list of letters, by their kinds
 pub length-letters : (xs : List Letter) → length xs ≡ forks_in xs + requests_in xs + dones_in xs + closes_in xs

@@ -4,7 +4,7 @@ use Rattle.dine_graph.specs.Plan.{SeenPlan, IsPlan, site_count, job_count}
 use Rattle.dine_rules.specs.Letters.{forks_in, requests_in, dones_in, closes_in}
 use Rattle.dine_rules.specs.Local.{LocalState, traffic_at}
 use Rattle.dine_rules.specs.Streams.{KeepsStreams, KeepsStreamsAt, is_lower_at}
-use Rattle.dine_rules.proofs.lists.Counting.{forks_in_turn}
+use Rattle.dine_rules.proofs.shared.lists.Counting.{forks_in_turn}
 use Rattle.dine_rules.proofs.one_site.PutBounds.{length-letters, one_done, one_close, requests_within}
 
 module _ (plan : SeenPlan) (s : ℕ) (state : LocalState) (i : ℕ) where

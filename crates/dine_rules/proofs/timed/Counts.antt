@@ -9,9 +9,9 @@ use Rattle.dine_rules.specs.declared.letters.Letter.{Letter}
 use Rattle.dine_rules.specs.Local.{LocalState, Traffic, no_traffic, traffic_at}
 use Rattle.dine_rules.specs.Steps.{Shape, Takes, Puts, Alone, MovesBy, shape_of}
 use Rattle.dine_rules.specs.Journals.{fails_before, next_of_these, state_after, state_after_all}
-use Rattle.dine_rules.proofs.lists.Options.{and_then_parts}
-use Rattle.dine_rules.proofs.one_site.Shapes.{event_moved}
-use Rattle.dine_rules.proofs.journals.JournalStates.{own_step}
+use Rattle.dine_rules.proofs.shared.lists.Options.{and_then_parts}
+use Rattle.dine_rules.proofs.shared.one_site.Shapes.{event_moved}
+use Rattle.dine_rules.proofs.shared.journals.JournalStates.{own_step}
 use Rattle.dine_rules.specs.Timed.{is_put_at, is_take_at, moments_of}
 
 -- how many events pass the test

@@ -13,12 +13,12 @@ use Rattle.dine_rules.specs.Local.{LocalState, Traffic, edge_at, is_eating, meal
 use Rattle.dine_rules.specs.Steps.{Shape, Step, End, Take, after, may, shape_of, step_by}
 use Rattle.dine_rules.specs.World.{WorldState, IsComplete, after_events, local_after, next_letter, place_of, put_to, start, state_of, step_of, world_after}
 use Rattle.dine_rules.specs.Journals.{AreStatesAfter, FailAsShown, IsOrderOf, IsWholeOrder, fails_before, journal_of, next_of_these, outcomes_in, part_of, state_after, state_after_all}
-use Rattle.dine_rules.proofs.links.Across.{IsAcross, across}
-use Rattle.dine_rules.proofs.links.WorldStreams.{WorldKeeps, event_keeps, prefix_short, start_kept, start_state}
-use Rattle.dine_rules.proofs.one_site.Site.{no_traffic_yet}
-use Rattle.dine_rules.proofs.lists.Options.{and_then_parts, option_map_parts}
+use Rattle.dine_rules.proofs.shared.links.Across.{IsAcross, across}
+use Rattle.dine_rules.proofs.shared.links.WorldStreams.{WorldKeeps, event_keeps, prefix_short, start_kept, start_state}
+use Rattle.dine_rules.proofs.shared.one_site.Site.{no_traffic_yet}
+use Rattle.dine_rules.proofs.shared.lists.Options.{and_then_parts, option_map_parts}
 use Rattle.dine_rules.proofs.journals.Parts.{part-same}
-use Rattle.dine_rules.proofs.journals.JournalStates.{AgreesEach, LeadsEach, FailsSo, ended, journals_fix, leads_on, own_step, same_letter, shows_on, taken_in}
+use Rattle.dine_rules.proofs.shared.journals.JournalStates.{AgreesEach, LeadsEach, FailsSo, ended, journals_fix, leads_on, own_step, same_letter, shows_on, taken_in}
 use Rattle.dine_rules.specs.Timed.{AreTimed, is_put_at, is_take_at, moments_of, timed_at}
 use Rattle.dine_rules.proofs.timed.Merging.{AtLeast, Sorted, TimedEvent, events_in, merge, merge_own, merge_sorted, own, own_append, own_part, own_same}
 use Rattle.dine_rules.proofs.timed.Counts.{count, moments_append, moments_count, puts_counted, takes_counted}

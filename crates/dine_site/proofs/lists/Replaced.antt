@@ -7,7 +7,7 @@ use Rattle.std.proofs.lemmas.List.{get_or-set_same, get_or-set_other, get_or-tak
 use Rattle.std.proofs.lemmas.List.Edits.{length-swap, swapped_from_swap}
 use Rattle.dine_site.specs.Ports.{SeenPort}
 use Rattle.dine_site.specs.private.PortSteps.{ChangesAt}
-use Rattle.dine_site.proofs.lists.Seen.{if_there}
+use Rattle.dine_site.proofs.shared.lists.Seen.{if_there}
 
 module _ {A : Type 0} (xs : List A) (i last : ℕ) (p d : A) (within : i < length xs) (count : last + 1 ≡ length xs) where
   -- what is left, and the new element behind it

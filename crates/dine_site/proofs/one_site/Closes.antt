@@ -13,10 +13,10 @@ use Rattle.dine_rules.specs.Letters.{has_close}
 use Rattle.dine_rules.specs.Local.{LocalState, Traffic, no_traffic, start_of, traffic_at}
 use Rattle.dine_rules.specs.StepLists.{LeadTo}
 use Rattle.dine_rules.specs.Steps.{Step, Give, Ask, Hungry, Begin, End, Quit, Done, Close, Break, Take, after, may, with_put, with_taken}
-use Rattle.dine_rules.proofs.lists.Counting.{has_close-append}
+use Rattle.dine_rules.proofs.shared.lists.Counting.{has_close-append}
 use Rattle.dine_site.specs.declared.manner.Manner.{Manner}
 use Rattle.dine_site.specs.Doings.{HasDone, event_of, is_close_at}
-use Rattle.dine_site.proofs.one_site.AtPlaces.{opens-ask, opens-break, opens-close, opens-done, opens-give}
+use Rattle.dine_site.proofs.shared.one_site.AtPlaces.{opens-ask, opens-break, opens-close, opens-done, opens-give}
 
 -- a letter that is put or taken at a place leaves each Close where it was put
 module _ (state : LocalState) (i : ℕ) (j : ℕ) (l : Letter) (within : j < length state.traffic) where

@@ -19,10 +19,10 @@ use Rattle.dine_site.specs.Endings.{OnLinks, breached_at, links_at, on_links, re
 use Rattle.dine_site.specs.Ports.{SeenPort, PutsFit}
 use Rattle.dine_site.specs.SiteEnds.{IsSiteEnd}
 use Rattle.dine_site.specs.private.Running.{SeenRun, ClosedBelow, HasState, MayEnd}
-use Rattle.dine_site.proofs.lists.Lists.{list_all-weaker, list_all-each}
-use Rattle.dine_site.proofs.one_site.Letters.{ClosedFrontsAreInOrder, FrontsAreInOrder, fit_in_order, puts_fit-same, rang_same}
-use Rattle.dine_site.proofs.lists.Seen.{there_is}
-use Rattle.dine_site.proofs.one_site.AtPlaces.{links_there}
+use Rattle.dine_site.proofs.shared.lists.Lists.{list_all-weaker, list_all-each}
+use Rattle.dine_site.proofs.shared.one_site.Letters.{ClosedFrontsAreInOrder, FrontsAreInOrder, fit_in_order, puts_fit-same, rang_same}
+use Rattle.dine_site.proofs.shared.lists.Seen.{there_is}
+use Rattle.dine_site.proofs.shared.one_site.AtPlaces.{links_there}
 use Rattle.dine_site.proofs.one_site.Stops.{just_did}
 
 -- one place more is closed

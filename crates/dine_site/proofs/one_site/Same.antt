@@ -13,7 +13,7 @@ use Rattle.dine_site.specs.declared.diner.Diner as diners
 use Rattle.dine_site.specs.declared.port.Port.{Port}
 use Rattle.dine_site.specs.declared.site_loop.running.Running.{Running}
 use Rattle.dine_site.specs.private.Running.{EatsOn, ObeysOn, IsReady, SameMeals}
-use Rattle.dine_site.proofs.one_site.Obeying.{obeying_as}
+use Rattle.dine_site.proofs.shared.one_site.Obeying.{obeying_as}
 use Rattle.dine_site.proofs.one_site.Meals.{eaten_same}
 
 module _ {Lane Tx Closed Rx Diner : Type 0} (diner : diners.Ghosts Diner) (old new : Running Lane Diner Tx Closed Rx) (same : SameMeals old new) where

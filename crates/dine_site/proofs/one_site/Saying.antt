@@ -25,7 +25,7 @@ use Rattle.dine_site.specs.declared.site_loop.running.Stop.{Stop}
 use Rattle.dine_site.specs.Doings.{event_of, is_begin, own_event}
 use Rattle.dine_site.specs.Ports.{seen_ports}
 use Rattle.dine_site.specs.private.Running.{ChecksOn, ForSomePlan, GoesOn, IsNext, IsPutting, IsRunning, IsToRing, IsTimedBut, IsTimedRun, Leads, MayProceed, Proceeds, SameMeals, WorksOn, IsWorking, memo_of, seen_run}
-use Rattle.dine_site.proofs.one_site.AtPlaces.{Opens, putting}
+use Rattle.dine_site.proofs.shared.one_site.AtPlaces.{Opens, putting}
 use Rattle.dine_site.proofs.one_site.Checks.{checks_more}
 use Rattle.dine_site.proofs.one_site.Proceeding.{proceeds_same}
 use Rattle.dine_site.proofs.one_site.Same.{same_but_place}

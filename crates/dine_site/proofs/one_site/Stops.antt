@@ -21,7 +21,7 @@ use Rattle.dine_link.specs.Bells.{SeenBell}
 use Rattle.dine_link.specs.Closing.{is_close}
 use Rattle.dine_site.specs.declared.port.Closed.{Closed}
 use Rattle.dine_site.specs.declared.port.Closed.TheVariants.{Heard, Refused, Unheard}
-use Rattle.dine_site.proofs.lists.Lists.{get-set_other, get-set_same}
+use Rattle.dine_site.proofs.shared.lists.Lists.{get-set_other, get-set_same}
 use Rattle.dine_site_core.specs.Core.{SeenCore}
 use Rattle.dine_site_core.specs.Standing.{CoreStep, CorePuts, ReportsBreach}
 use Rattle.dine_site.specs.declared.site_end.SiteFault.{SiteFault}
@@ -32,10 +32,10 @@ use Rattle.dine_site.specs.private.PortSteps.{SendsClose, port_after_unheard_clo
 use Rattle.dine_site.specs.Endings.{IsBreached, IsLost, OnLinks, breached_at, links_at, nothing_on_links, on_links, refused_at}
 use Rattle.dine_site.specs.SiteEnds.{HasBellRefused}
 use Rattle.dine_site.specs.private.Running.{AtEach, SeenRun, HasState, RunsAt, StopsAt, IsRunning, IsPutting, IsStopped}
-use Rattle.dine_site.proofs.one_site.Letters.{puts_fit-shorter, stops-as_it_was, stops-refused, stops-unclosed, stops-untaken, stops-breached, stops-closed, stops-close_refused, stops-close_unheard, forks_in-closed, requests_in-closed, has_done-closed}
+use Rattle.dine_site.proofs.shared.one_site.Letters.{puts_fit-shorter, stops-as_it_was, stops-refused, stops-unclosed, stops-untaken, stops-breached, stops-closed, stops-close_refused, stops-close_unheard, forks_in-closed, requests_in-closed, has_done-closed}
 use Rattle.dine_site.proofs.one_site.Turns.{led_more}
 use Rattle.dine_site.proofs.one_site.Closes.{no_close_event}
-use Rattle.dine_site.proofs.one_site.AtPlaces.{at-set, at-port, has-port, has-put, links_there, opens-break}
+use Rattle.dine_site.proofs.shared.one_site.AtPlaces.{at-set, at-port, has-port, has-put, links_there, opens-break}
 
 -- what the letter of a stray is, at its place and at another
 here : (i : ℕ) (l : Letter) → (if i == i then Some l else None) ≡ Some l

@@ -21,10 +21,10 @@ use Rattle.dine_site.specs.private.PortSteps.{port_after_put, port_after_close, 
 use Rattle.dine_site.specs.Doings.{HasActed}
 use Rattle.dine_site.specs.declared.manner.Manner.{Manner}
 use Rattle.dine_site.specs.private.Running.{SeenRun, RunsAt, IsNext, IsRunning, IsPutting, MayTakeNow}
-use Rattle.dine_site.proofs.lists.Lists.{all_at}
-use Rattle.dine_site.proofs.one_site.Letters.{runs-put, runs-closed, runs-taken, live_where_open}
+use Rattle.dine_site.proofs.shared.lists.Lists.{all_at}
+use Rattle.dine_site.proofs.shared.one_site.Letters.{runs-put, runs-closed, runs-taken, live_where_open}
 use Rattle.dine_site.proofs.one_site.Turns.{JournalsGrow, acted_more, acted_nothing, end_is_next}
-use Rattle.dine_site.proofs.one_site.AtPlaces.{at-set, did_step, has-core, has-step, has-port}
+use Rattle.dine_site.proofs.shared.one_site.AtPlaces.{at-set, did_step, has-core, has-step, has-port}
 
 module _ {Identity : Type 0} (plan : SeenPlan) (given : List (SeenPort Identity)) (run : SeenRun Identity) where
   -- ---- a letter goes out

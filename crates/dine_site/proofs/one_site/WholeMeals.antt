@@ -10,7 +10,7 @@ use Rattle.dine_rules.specs.Streams.{KeepsStreams}
 use Rattle.dine_site_core.specs.Core.{SeenCore, Refines}
 use Rattle.dine_site_core.specs.Places.{IsMealOf, no_place}
 use Rattle.dine_site_core.specs.declared.site.places.Place.{Place}
-use Rattle.dine_site_core.proofs.lists.Lists.{get_or-map_at}
+use Rattle.dine_site_core.proofs.shared.lists.Lists.{get_or-map_at}
 use Rattle.dine_site.specs.WholeMeals.{IsWholeIn, edge_of}
 
 pub whole_meal : (plan : SeenPlan) (state : LocalState) (core : SeenCore) (meal : SeenMeal) → Refines plan state core → KeepsStreams plan core.site state → IsMealOf core meal → IsWholeIn plan meal

@@ -7,7 +7,7 @@ use Rattle.dine_rules.specs.Steps.{Step, after, may, with_put}
 use Rattle.dine_rules.specs.Streams.{KeepsStreams, IsProper}
 use Rattle.dine_site_core.specs.Core.{SeenCore, Refines}
 use Rattle.dine_site_core.specs.Standing.{CoreStep}
-use Rattle.dine_rules.proofs.one_site.SiteSteps.{step_keeps}
+use Rattle.dine_rules.proofs.shared.one_site.SiteSteps.{step_keeps}
 
 module _ (plan : SeenPlan) (state : LocalState) (core : SeenCore) (stands : Refines plan state core) (keeps : KeepsStreams plan core.site state) where
   pub stepped : (step : Step) (new next : SeenCore) → new ≡ next → next.site ≡ core.site → IsProper step → may plan core.site state step ≡ true

@@ -4,8 +4,8 @@ use Rattle.std.specs.List.{All, list_all}
 use Rattle.std.specs.Option.{option_map}
 use Rattle.dine_token.specs.Fork.{SeenFork, IsDirty}
 use Rattle.dine_set.specs.Marks.{marks_of, marks_without, nth_position}
-use Rattle.dine_set.proofs.MarksOf.{without-marks_of, marks_of-agree, marks_of-push, marks_of-set, marks_of-same, marks_of-none, marks_of-each, marks_of-map}
-use Rattle.dine_set.proofs.NthPosition.{nth_position-zero}
+use Rattle.dine_set.proofs.shared.MarksOf.{without-marks_of, marks_of-agree, marks_of-push, marks_of-set, marks_of-same, marks_of-none, marks_of-each, marks_of-map}
+use Rattle.dine_set.proofs.shared.NthPosition.{nth_position-zero}
 use Rattle.dine_site_core.specs.declared.site.places.Place.{Place}
 use Rattle.dine_site_core.specs.declared.site.places.ForkSlot.{ForkSlot}
 use Rattle.dine_site_core.specs.declared.site.places.ForkSlot.TheVariants.{Away, Here, InMeal}

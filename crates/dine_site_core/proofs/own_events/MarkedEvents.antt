@@ -4,12 +4,12 @@ use Rattle.std.specs.List.{filter, find, range_with_len}
 use Rattle.std.specs.Option.{option_map}
 use Rattle.std.proofs.lemmas.List.Sums.{sum_by-cons}
 use Rattle.dine_set.specs.Marks.{marks_of, nth_position}
-use Rattle.dine_set.proofs.MarksOf.{marks_of-agree, marks_of-none, position-marks_of}
-use Rattle.dine_set.proofs.NthPosition.{nth_position-zero}
+use Rattle.dine_set.proofs.shared.MarksOf.{marks_of-agree, marks_of-none, position-marks_of}
+use Rattle.dine_set.proofs.shared.NthPosition.{nth_position-zero}
 use Rattle.dine_site_core.specs.declared.site.places.Place.{Place}
 use Rattle.dine_site_core.specs.Core.{SeenCore}
 use Rattle.dine_site_core.specs.Places.{no_place, place_at}
-use Rattle.dine_site_core.proofs.own_events.NextEvents.{filter_first}
+use Rattle.dine_site_core.proofs.shared.own_events.NextEvents.{filter_first}
 
 -- a number more, and that by which all are moved
 moved_on : (j : ℕ) (o : Option ℕ) → option_map (λ i. j + 1 + i) o ≡ option_map (λ i. j + i) (option_map (λ i. i + 1) o)

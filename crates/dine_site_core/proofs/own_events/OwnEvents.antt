@@ -6,7 +6,7 @@ use Rattle.std.proofs.lemmas.List.{length-map}
 use Rattle.std.proofs.lemmas.List.Elements.{filter-append}
 use Rattle.std.proofs.lemmas.Option.{slice_get-map}
 use Rattle.dine_set.specs.Marks.{marks_of, nth_position}
-use Rattle.dine_set.proofs.MarksOf.{nth_position-marks_of, count_by-marks_of}
+use Rattle.dine_set.proofs.shared.MarksOf.{nth_position-marks_of, count_by-marks_of}
 use Rattle.dine_rules.specs.declared.events.EventKind.{EventKind}
 use Rattle.dine_rules.specs.declared.events.EventKind.TheVariants as event
 use Rattle.dine_rules.specs.declared.phase.Phase.{Phase}
@@ -18,7 +18,7 @@ use Rattle.dine_site_core.specs.Core.{SeenCore}
 use Rattle.dine_site_core.specs.NextEvent.{can_by_itself, own_kinds}
 use Rattle.dine_site_core.specs.private.OwnEvents.{may_ask_at, may_give_at, may_say_done_at, own_words}
 use Rattle.dine_site_core.specs.Places.{can_close_at, is_ready_at, place_at}
-use Rattle.dine_site_core.proofs.own_events.NextEvents.{filter-map}
+use Rattle.dine_site_core.proofs.shared.own_events.NextEvents.{filter-map}
 use Rattle.dine_site_core.proofs.own_events.MarkedEvents.{Agrees, as_it_is, marked_count, marked_nth}
 
 -- ---- an element of two lists, one behind the other

@@ -49,7 +49,7 @@ impl Model for MarkedPlaces {
     ghost invariant = { IsMarked };
 }
 
-#[tactic(auto, using(dine_set::proofs::MarksOf::marks_laws))]
+#[tactic(auto, using(dine_set::proofs::shared::MarksOf::marks_laws))]
 impl MarkedPlaces {
     /// Opens a list without places, with capacity for this number.
     pub(crate) fn with_capacity(alloc: Global, places: usize) -> Result<MarkedPlaces, AllocError>

@@ -23,11 +23,11 @@ use Rattle.dine_rules.specs.Steps.{hand_fork, hand_fork_at}
 use Rattle.dine_rules.specs.Values.{KeepsValuesOfLogs, value_by}
 use Rattle.dine_rules.specs.Streams.{IsPutInOrder, KeepsStreams, is_close_last}
 use Rattle.dine_rules.specs.World.{place_of}
-use Rattle.dine_rules.proofs.links.Across.{across, edge_at-place_of, place_of-edge_at}
-use Rattle.dine_rules.proofs.lists.Counting.{forks_in-append, prefix_forks}
-use Rattle.dine_rules.proofs.lists.Forks.{forks_among-append, forks_among-before, forks_among-prefix}
-use Rattle.dine_rules.proofs.one_place.Placed.{placed}
-use Rattle.dine_rules.proofs.lists.Turns.{open_before, slice_get-behind}
+use Rattle.dine_rules.proofs.shared.links.Across.{across, edge_at-place_of, place_of-edge_at}
+use Rattle.dine_rules.proofs.shared.lists.Counting.{forks_in-append, prefix_forks}
+use Rattle.dine_rules.proofs.shared.lists.Forks.{forks_among-append, forks_among-before, forks_among-prefix}
+use Rattle.dine_rules.proofs.shared.one_place.Placed.{placed}
+use Rattle.dine_rules.proofs.shared.lists.Turns.{open_before, slice_get-behind}
 use Rattle.dine_site_core.specs.Core.{forks_in_hand}
 use Rattle.dine_site_core.specs.Standing.{all_places}
 use Rattle.dine_link.specs.Links.{SeenLink, link_of}
@@ -46,11 +46,11 @@ use Rattle.dine_site.specs.Ports.{PutsFit, SeenPort, seen_port, seen_ports}
 use Rattle.dine_site.specs.Endings.{Ending, HasEnded, OnLinks, breached_at, letter_at, links_at, on_links, refused_at, traffic_on}
 use Rattle.dine_threads.specs.private.Spots.{low_spot, high_spot}
 use Rattle.dine_threads.specs.private.Wirings.{AreWired, port_at}
-use Rattle.dine_threads.proofs.all_sites.Collected.{length-in_slots}
-use Rattle.dine_site.proofs.one_site.AtPlaces.{links_there}
+use Rattle.dine_threads.proofs.shared.all_sites.Collected.{length-in_slots}
+use Rattle.dine_site.proofs.shared.one_site.AtPlaces.{links_there}
 use Rattle.dine_threads.proofs.all_sites.Gatherings.{AreAllLeft, end_for, end_of, forks_each, forks_of_all, left_at, row_of}
 use Rattle.dine_threads.proofs.all_sites.Headlines.{in_all, in_hand}
-use Rattle.dine_site.proofs.lists.Lists.{get-set_other}
+use Rattle.dine_site.proofs.shared.lists.Lists.{get-set_other}
 use Rattle.dine_threads.proofs.all_sites.InSlots.{IsIn, in_slots_puts}
 use Rattle.dine_threads.proofs.lists.Writes.{same_spot}
 use Rattle.dine_link.specs.declared.lane.Lane.{Ghosts}

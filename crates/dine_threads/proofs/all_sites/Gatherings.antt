@@ -11,7 +11,7 @@ use Rattle.std.proofs.lemmas.Slice.Zip.{AllZip-long}
 use Rattle.std.proofs.Math.Nat.{zero-add}
 use Rattle.dine_token.specs.Fork.{SeenFork}
 use Rattle.dine_graph.specs.Plan.{SeenPlan, IsPlan, site_count, edge_count, edges_of, job_count, lo_of, hi_of, resigns}
-use Rattle.dine_graph.proofs.ListLemmas.{position_none_at}
+use Rattle.dine_graph.proofs.shared.ListLemmas.{position_none_at}
 use Rattle.dine_rules.specs.declared.letters.Letter.{Letter}
 use Rattle.dine_rules.specs.declared.letters.Letter.TheVariants.{Fork, Request, Done, Close}
 use Rattle.dine_rules.specs.Letters.{has_close, has_done}
@@ -19,9 +19,9 @@ use Rattle.dine_rules.specs.Local.{LocalState, no_traffic, traffic_at}
 use Rattle.dine_rules.specs.Holdings.{fork_at}
 use Rattle.dine_rules.specs.Streams.{IsClosedInOrder, is_close_last, is_orderly}
 use Rattle.dine_rules.specs.Steps.{hand_fork_at}
-use Rattle.dine_rules.proofs.one_place.Placed.{placed}
-use Rattle.dine_rules.proofs.one_site.SiteSteps.{list_all-range}
-use Rattle.dine_rules.proofs.lists.Turns.{ends_in_close}
+use Rattle.dine_rules.proofs.shared.one_place.Placed.{placed}
+use Rattle.dine_rules.proofs.shared.one_site.SiteSteps.{list_all-range}
+use Rattle.dine_rules.proofs.shared.lists.Turns.{ends_in_close}
 use Rattle.dine_site_core.specs.Core.{forks_in_hand}
 use Rattle.dine_link.specs.Links.{SeenLink, link_of}
 use Rattle.dine_threads.specs.declared.gathered.SiteOut.{SiteOut}
@@ -45,11 +45,11 @@ use Rattle.dine_site.specs.Times.{IsTimed, none_late}
 use Rattle.dine_threads.specs.private.Setups.{IsSetUp, rows_of_starts}
 use Rattle.dine_threads.specs.private.Spots.{low_spot, high_spot}
 use Rattle.dine_threads.specs.private.Wirings.{AreWired, port_at}
-use Rattle.dine_site.proofs.one_site.AtPlaces.{links_there}
-use Rattle.dine_site.proofs.one_site.Quits.{quit_reported}
-use Rattle.dine_site.proofs.lists.Lists.{all_at}
-use Rattle.dine_site.proofs.lists.Seen.{there_is}
-use Rattle.dine_threads.proofs.lists.Zips.{AllZip-at}
+use Rattle.dine_site.proofs.shared.one_site.AtPlaces.{links_there}
+use Rattle.dine_site.proofs.shared.one_site.Quits.{quit_reported}
+use Rattle.dine_site.proofs.shared.lists.Lists.{all_at}
+use Rattle.dine_site.proofs.shared.lists.Seen.{there_is}
+use Rattle.dine_threads.proofs.shared.lists.Zips.{AllZip-at}
 use Rattle.dine_link.specs.declared.lane.Lane.{Ghosts}
 use Rattle.dine_site.specs.declared.diner.Diner as diners
 

@@ -7,11 +7,11 @@ use Rattle.std.proofs.lemmas.List.{append-nil, map-append, map-set, get_or-map, 
 use Rattle.std.proofs.lemmas.List.Elements.{All-nil, All-cons, All-append}
 use Rattle.std.proofs.lemmas.Option.{same_Some, slice_get_within, slice_get-get_or, get_or_from_slice_get}
 use Rattle.dine_graph.specs.Plan.{SeenPlan, IsPlan, site_count, edge_count, edges_of, ends_of, lo_of, hi_of, is_end}
-use Rattle.dine_graph.proofs.ListLemmas.{filter-range_more}
+use Rattle.dine_graph.proofs.shared.ListLemmas.{filter-range_more}
 use Rattle.dine_link.specs.Bells.{SeenBell, SeenRinger, new_ringer}
 use Rattle.dine_rules.specs.World.{place_of}
-use Rattle.dine_rules.proofs.links.Across.{edge_at-place_of, place_of-edge_at}
-use Rattle.dine_rules.proofs.lists.Counting.{slice_get-before}
+use Rattle.dine_rules.proofs.shared.links.Across.{edge_at-place_of, place_of-edge_at}
+use Rattle.dine_rules.proofs.shared.lists.Counting.{slice_get-before}
 use Rattle.dine_threads.specs.private.Openings.{HaveNoPort, ArePlaced, AreNewPorts, AreRingersOf, HavePorts, HasNoPort, bells_of, rows_of}
 use Rattle.dine_site.specs.Ports.{SeenPort, IsFreshPort, seen_port, seen_ports}
 use Rattle.dine_threads.specs.private.Spots.{IsPairAt, IsFullRow, row_at, slot_at, low_spot, high_spot}
@@ -20,7 +20,7 @@ use Rattle.dine_threads.specs.declared.opening.SitePorts.{SitePorts}
 use Rattle.dine_threads.specs.declared.slots.EdgePair.{EdgePair}
 use Rattle.dine_threads.specs.declared.slots.Spot.{Spot}
 use Rattle.dine_threads.proofs.all_sites.Edges.{slice_get-push}
-use Rattle.dine_site.proofs.lists.Seen.{there_is}
+use Rattle.dine_site.proofs.shared.lists.Seen.{there_is}
 use Rattle.dine_link.specs.declared.lane.Lane.{Ghosts}
 
 -- ---- lists

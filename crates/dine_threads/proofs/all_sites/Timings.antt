@@ -6,7 +6,7 @@ use Rattle.dine_graph.specs.Plan.{SeenPlan, edges_of, site_count}
 use Rattle.dine_rules.specs.declared.events.EventKind.{EventKind}
 use Rattle.dine_rules.specs.Local.{edge_at, neighbour_at}
 use Rattle.dine_rules.specs.World.{place_of}
-use Rattle.dine_rules.proofs.links.Across.{across}
+use Rattle.dine_rules.proofs.shared.links.Across.{across}
 use Rattle.dine_link.specs.Links.{SeenLink}
 use Rattle.dine_site.specs.declared.manner.Manner.{Manner}
 use Rattle.dine_site.specs.declared.site_end.SiteEnd.{SiteEnd}

@@ -1,6 +1,6 @@
 use Rattle.std.proofs.Common.{map, ap, ◌∙◌}
 use Rattle.dine_graph.specs.Job.{seen_job}
-use Rattle.dine_draft.proofs.ListLemmas.{each_more}
+use Rattle.dine_draft.proofs.shared.ListLemmas.{each_more}
 use Rattle.dine_builder.specs.DraftPlan.{job_of_draft}
 use Rattle.dine_builder.proofs.drafts.jobs_of.Goals as goal
 

@@ -1,6 +1,6 @@
 use Rattle.std.proofs.Common.{map, ap, ◌∙◌}
 use Rattle.dine_graph.specs.Site.{seen_site}
-use Rattle.dine_draft.proofs.ListLemmas.{each_seen_more}
+use Rattle.dine_draft.proofs.shared.ListLemmas.{each_seen_more}
 use Rattle.dine_builder.specs.DraftPlan.{site_of_draft}
 use Rattle.dine_builder.specs.private.DraftFields.{seen_draft_site}
 use Rattle.dine_builder.proofs.drafts.sites_of.Goals as goal

@@ -1,6 +1,6 @@
 use Rattle.std.proofs.Common.{refl, ◌∙◌}
 use Rattle.dine_draft.specs.Draft.{ends_of_edge}
-use Rattle.dine_draft.proofs.ListLemmas.{each_plain_more}
+use Rattle.dine_draft.proofs.shared.ListLemmas.{each_plain_more}
 use Rattle.dine_draft.proofs.edges.ends_of.Goals as goal
 
 pub loop-edge-preserved : goal.loop-edge-preserved

@@ -2,7 +2,7 @@ use Rattle.std.proofs.Common.{◌≡◌, ℕ, ◌<◌, List, length, map, take, 
 use Rattle.std.specs.List.{list_any}
 use Rattle.std.proofs.lemmas.List.{get_or-map, take-map, length-map}
 use Rattle.dine_draft.specs.Refusals.{stands_before, same_ends}
-use Rattle.dine_draft.proofs.ListLemmas.{list_any-map, first_twice_here, first_twice_none}
+use Rattle.dine_draft.proofs.shared.ListLemmas.{list_any-map, first_twice_here, first_twice_none}
 use Rattle.dine_draft.proofs.edges.first_edge_twice.Goals as goal
 
 -- whether a pair is one of those before it

@@ -1,7 +1,7 @@
 use Rattle.std.proofs.Common.{map, Some, None, arith, sym, ◌∙◌}
 use Rattle.std.proofs.lemmas.List.{length-map}
 use Rattle.dine_draft.specs.Refusals.{same_ends}
-use Rattle.dine_draft.proofs.ListLemmas.{first_twice_within}
+use Rattle.dine_draft.proofs.shared.ListLemmas.{first_twice_within}
 use Rattle.dine_draft.proofs.edges.first_pair_fault.Goals as goal
 
 pub overflow_cast-result : goal.overflow_cast-result

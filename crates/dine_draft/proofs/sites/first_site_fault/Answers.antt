@@ -4,8 +4,8 @@ use Rattle.std.proofs.lemmas.Bool.{lt-ltb, le-ltb}
 use Rattle.std.proofs.lemmas.List.{length-map}
 use Rattle.dine_graph.specs.Site.{seen_site}
 use Rattle.dine_draft.specs.Refusals.{site_refusals}
-use Rattle.dine_draft.proofs.NameLemmas.{names_seen, length-names_seen}
-use Rattle.dine_draft.proofs.ListLemmas.{first_twice_within}
+use Rattle.dine_draft.proofs.shared.NameLemmas.{names_seen, length-names_seen}
+use Rattle.dine_draft.proofs.shared.ListLemmas.{first_twice_within}
 use Rattle.dine_draft.proofs.sites.first_site_fault.Goals as goal
 
 pub overflow_cast-result-in-Some-2 : goal.overflow_cast-result-in-Some-2

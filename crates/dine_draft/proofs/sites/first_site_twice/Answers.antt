@@ -3,8 +3,8 @@ use Rattle.std.specs.List.{list_any}
 use Rattle.std.specs.Str.{bytes_eq}
 use Rattle.std.specs.BTreeMap.{is_at}
 use Rattle.std.proofs.lemmas.Bool.{false≢true}
-use Rattle.dine_draft.proofs.ListLemmas.{first_twice_here, first_twice_none}
-use Rattle.dine_draft.proofs.NameLemmas.{text_cmp, contains-texts, any-insert_key, any-names_more, names_seen, length-names_seen, name_stands_before}
+use Rattle.dine_draft.proofs.shared.ListLemmas.{first_twice_here, first_twice_none}
+use Rattle.dine_draft.proofs.shared.NameLemmas.{text_cmp, contains-texts, any-insert_key, any-names_more, names_seen, length-names_seen, name_stands_before}
 use Rattle.dine_draft.proofs.sites.first_site_twice.Goals as goal
 
 new_false : (b : Bool) → false ≡ not b → b ≡ true

@@ -2,7 +2,7 @@ use Rattle.std.proofs.Common.{◌≡◌, ℕ, ◌<◌, false, List, [], take}
 use Rattle.std.specs.List.{list_any}
 use Rattle.std.specs.Str.{bytes_eq}
 use Rattle.dine_draft.specs.Refusals.{stands_before}
-use Rattle.dine_draft.proofs.NameLemmas.{names_seen}
+use Rattle.dine_draft.proofs.shared.NameLemmas.{names_seen}
 use Rattle.dine_draft.proofs.sites.first_site_twice.Given as goal
 
 abbrev pub invariant-loop-i : goal.invariant-loop-i

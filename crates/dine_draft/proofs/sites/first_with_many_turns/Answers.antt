@@ -1,7 +1,7 @@
 use Rattle.std.proofs.Common.{rules, tests, refl}
 use Rattle.dine_graph.specs.Site.{seen_site}
 use Rattle.dine_draft.specs.Refusals.{has_many_turns}
-use Rattle.dine_draft.proofs.Searches.{position_seen}
+use Rattle.dine_draft.proofs.shared.Searches.{position_seen}
 use Rattle.dine_draft.proofs.sites.first_with_many_turns.Goals as goal
 
 pub returns : goal.returns

@@ -1,7 +1,7 @@
 use Rattle.std.proofs.Common.{not, map, rules, tests, refl, ap}
 use Rattle.dine_graph.specs.Job.{seen_job}
 use Rattle.dine_draft.specs.Refusals.{has_bad_name, is_unnamed}
-use Rattle.dine_draft.proofs.Searches.{any_seen}
+use Rattle.dine_draft.proofs.shared.Searches.{any_seen}
 use Rattle.dine_draft.proofs.sites.has_bad_name.Goals as goal
 
 pub returns-then-not-is_name : goal.returns-then-not-is_name

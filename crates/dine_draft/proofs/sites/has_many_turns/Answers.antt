@@ -1,7 +1,7 @@
 use Rattle.std.proofs.Common.{map, rules, tests, ap}
 use Rattle.dine_graph.specs.Job.{seen_job}
 use Rattle.dine_draft.specs.Refusals.{has_many_turns, is_long}
-use Rattle.dine_draft.proofs.Searches.{any_seen}
+use Rattle.dine_draft.proofs.shared.Searches.{any_seen}
 use Rattle.dine_draft.proofs.sites.has_many_turns.Goals as goal
 
 pub returns : goal.returns

@@ -1,4 +1,4 @@
-use Rattle.dine_draft.proofs.NameLemmas.{decimal_is_name}
+use Rattle.dine_draft.proofs.shared.NameLemmas.{decimal_is_name}
 use Rattle.dine_draft.proofs.sites.is_number.Goals as goal
 use Rattle.std.proofs.Common.{sym, arith}
 

@@ -1,6 +1,6 @@
 use Rattle.std.proofs.Common.{rules, string_bytes, tests, refl}
 use Rattle.std.specs.Str.{bytes_eq}
-use Rattle.dine_draft.proofs.Searches.{any_seen}
+use Rattle.dine_draft.proofs.shared.Searches.{any_seen}
 use Rattle.dine_ffi.proofs.own_builder.has_text.Goals as goal
 
 pub returns : goal.returns

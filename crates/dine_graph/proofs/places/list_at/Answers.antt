@@ -1,6 +1,6 @@
 use Rattle.std.proofs.Common.{[], ◌∷◌, ◌++◌, get_or, append-nil, sym, ap, ◌∙◌}
 use Rattle.dine_graph.specs.Plan.{is_one_of}
-use Rattle.dine_graph.proofs.ListLemmas.{filter-range_more}
+use Rattle.dine_graph.proofs.shared.ListLemmas.{filter-range_more}
 use Rattle.dine_graph.proofs.places.list_at.Goals as goal
 use Rattle.dine_graph.proofs.places.list_at.Goals.{then-is_one_of+in_ok-push, else-is_one_of}
 

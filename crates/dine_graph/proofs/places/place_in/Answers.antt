@@ -1,6 +1,6 @@
 use Rattle.std.proofs.Common.{sym, ◌∙◌, arith}
 use Rattle.std.proofs.lemmas.Bool.{false≢true}
-use Rattle.dine_graph.proofs.ListLemmas.{list_any_missing}
+use Rattle.dine_graph.proofs.shared.ListLemmas.{list_any_missing}
 use Rattle.dine_graph.proofs.places.place_in.Goals as goal
 
 pub unreachable-requires : goal.unreachable-requires

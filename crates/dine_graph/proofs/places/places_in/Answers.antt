@@ -1,8 +1,8 @@
 use Rattle.std.proofs.Common.{◌≡◌, ℕ, length, get_or, Some, ap, ◌∙◌, arith}
 use Rattle.std.specs.List.{slice_get}
 use Rattle.dine_graph.specs.Plan.{positions_at}
-use Rattle.dine_graph.proofs.ListLemmas.{each_pushed}
-use Rattle.dine_graph.proofs.PlaceLemmas.{low_is_one_of, high_is_one_of, positions_few, positions_has}
+use Rattle.dine_graph.proofs.shared.ListLemmas.{each_pushed}
+use Rattle.dine_graph.proofs.shared.PlaceLemmas.{low_is_one_of, high_is_one_of, positions_few, positions_has}
 use Rattle.dine_graph.proofs.places.places_in.Goals as goal
 
 pub place_in-at_low-requires-clause-few : goal.place_in-at_low-requires-clause-few

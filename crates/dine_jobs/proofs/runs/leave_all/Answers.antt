@@ -2,7 +2,7 @@
 use Rattle.std.proofs.Common.{◌≡◌, ◌++◌, [], List, map, ap, ◌∙◌, arith, vec_items}
 use Rattle.std.specs.Vec.Iter.{into_iter_items}
 use Rattle.std.proofs.lemmas.List.{nil_from_length}
-use Rattle.dine_threads.proofs.all_sites.Collected.{moved_as, none_left}
+use Rattle.dine_threads.proofs.shared.all_sites.Collected.{moved_as, none_left}
 use Rattle.dine_threads.specs.declared.gathered.SiteOut.{SiteOut}
 use Rattle.dine_jobs.specs.declared.job_diner.JobDiner.{JobDiner}
 use Rattle.dine_jobs.specs.declared.done.SiteDone.{SiteDone}

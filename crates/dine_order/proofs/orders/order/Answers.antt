@@ -3,7 +3,7 @@ use Rattle.std.proofs.lemmas.List.{length-map}
 use Rattle.dine_rules.specs.Shown.{plan_shown}
 use Rattle.dine_order.specs.Orders.{OrderFaultIs}
 use Rattle.dine_order.proofs.Answering.{memory_told}
-use Rattle.dine_order.proofs.Shown.{counted_too, sites_shown}
+use Rattle.dine_order.proofs.shared.Shown.{counted_too, sites_shown}
 use Rattle.dine_order.proofs.orders.order.Goals as goal
 
 pub returns-then-journals-sites-clause-fault : goal.returns-then-journals-sites-clause-fault

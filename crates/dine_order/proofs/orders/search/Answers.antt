@@ -5,7 +5,7 @@ use Rattle.dine_rules.specs.Shown.{plan_shown}
 use Rattle.dine_order.specs.Orders.{OrderFaultIs}
 use Rattle.dine_order.specs.private.Searching.{FirstLeft}
 use Rattle.dine_order.proofs.Answering.{memory_told, not_closed, stuck_at, whole_order}
-use Rattle.dine_order.proofs.Shown.{are_outcomes, counted_too, sites_shown}
+use Rattle.dine_order.proofs.shared.Shown.{are_outcomes, counted_too, sites_shown}
 use Rattle.dine_order.proofs.orders.search.Goals as goal
 
 pub returns-in-Some-clause-fault : goal.returns-in-Some-clause-fault

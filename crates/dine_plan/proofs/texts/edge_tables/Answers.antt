@@ -3,7 +3,7 @@ use Rattle.toml.specs.View.{view}
 use Rattle.dine_draft.specs.Draft.{names_of}
 use Rattle.dine_plan.specs.DraftDocument.{edge_table}
 use Rattle.dine_graph.specs.Site.{seen_site}
-use Rattle.dine_draft.proofs.ListLemmas.{each_more}
+use Rattle.dine_draft.proofs.shared.ListLemmas.{each_more}
 use Rattle.dine_plan.proofs.texts.edge_tables.Goals as goal
 
 pub loop-edge-preserved : goal.loop-edge-preserved

@@ -1,6 +1,6 @@
 use Rattle.std.proofs.Common.{string_bytes, sym, ap, ◌∙◌}
 use Rattle.dine_graph.specs.declared.plans.Site.{Site}
-use Rattle.dine_draft.proofs.NameLemmas.{names_seen-at}
+use Rattle.dine_draft.proofs.shared.NameLemmas.{names_seen-at}
 use Rattle.dine_plan.proofs.texts.end_name.Goals as goal
 
 pub returns : goal.returns

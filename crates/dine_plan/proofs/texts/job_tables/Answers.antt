@@ -1,7 +1,7 @@
 use Rattle.std.proofs.Common.{map, ap, ◌∙◌}
 use Rattle.toml.specs.View.{view}
 use Rattle.dine_graph.specs.Job.{seen_job}
-use Rattle.dine_draft.proofs.ListLemmas.{each_seen_more}
+use Rattle.dine_draft.proofs.shared.ListLemmas.{each_seen_more}
 use Rattle.dine_plan.specs.DraftDocument.{job_table}
 use Rattle.dine_plan.proofs.texts.job_tables.Goals as goal
 

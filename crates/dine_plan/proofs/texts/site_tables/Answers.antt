@@ -2,7 +2,7 @@ use Rattle.std.proofs.Common.{map, ap, ◌∙◌}
 use Rattle.toml.specs.View.{view}
 use Rattle.dine_plan.specs.DraftDocument.{site_table}
 use Rattle.dine_graph.specs.Site.{seen_site}
-use Rattle.dine_draft.proofs.ListLemmas.{each_seen_more}
+use Rattle.dine_draft.proofs.shared.ListLemmas.{each_seen_more}
 use Rattle.dine_plan.proofs.texts.site_tables.Goals as goal
 
 pub loop-site-preserved : goal.loop-site-preserved

@@ -1,6 +1,6 @@
 use Rattle.std.proofs.Common.{rules, tests, refl, sym, ◌∙◌}
 use Rattle.toml.specs.View.{view}
-use Rattle.dine_draft.proofs.Searches.{position_seen}
+use Rattle.dine_draft.proofs.shared.Searches.{position_seen}
 use Rattle.dine_reader.specs.Document.{has_other_policy}
 use Rattle.dine_reader.proofs.acts.first_other_policy.Goals as goal
 

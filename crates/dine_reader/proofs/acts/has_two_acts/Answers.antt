@@ -1,7 +1,7 @@
 use Rattle.std.proofs.Common.{rules, tests}
 use Rattle.toml.specs.View.{view}
 use Rattle.dine_reader.specs.Document.{has_two_acts, has_both}
-use Rattle.dine_draft.proofs.Searches.{any_seen}
+use Rattle.dine_draft.proofs.shared.Searches.{any_seen}
 use Rattle.dine_reader.proofs.acts.has_two_acts.Goals as goal
 
 pub returns : goal.returns

@@ -1,4 +1,4 @@
-use Rattle.dine_reader.proofs.DocumentLemmas.{items_in-as_array}
+use Rattle.dine_reader.proofs.shared.DocumentLemmas.{items_in-as_array}
 use Rattle.dine_reader.proofs.documents.items_in.Goals as goal
 
 pub returns-in-Some : goal.returns-in-Some

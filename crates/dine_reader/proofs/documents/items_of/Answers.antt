@@ -1,7 +1,7 @@
 use Rattle.std.proofs.Common.{map, ap, ◌∙◌, sym}
 use Rattle.toml.specs.View.{view}
 use Rattle.dine_reader.specs.Document.{items_in}
-use Rattle.dine_reader.proofs.DocumentLemmas.{list_of-items_of, view-Array}
+use Rattle.dine_reader.proofs.shared.DocumentLemmas.{list_of-items_of, view-Array}
 use Rattle.dine_reader.proofs.documents.items_of.Goals as goal
 
 pub returns-in-Array : goal.returns-in-Array

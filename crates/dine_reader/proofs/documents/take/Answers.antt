@@ -2,7 +2,7 @@ use Rattle.std.proofs.Common.{option_map, ap, sym, ◌∙◌}
 use Rattle.toml.specs.Data.{get}
 use Rattle.toml.specs.View.{view}
 use Rattle.toml.proofs.Views.{view-lookup}
-use Rattle.dine_reader.proofs.DocumentLemmas.{view-Table}
+use Rattle.dine_reader.proofs.shared.DocumentLemmas.{view-Table}
 use Rattle.dine_reader.proofs.documents.take.Goals as goal
 
 pub returns-in-Table : goal.returns-in-Table

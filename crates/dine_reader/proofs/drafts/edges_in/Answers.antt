@@ -1,7 +1,7 @@
 use Rattle.std.proofs.Common.{◌∙◌}
 use Rattle.toml.specs.View.{view}
 use Rattle.dine_reader.specs.PlanOf.{edge_in}
-use Rattle.dine_draft.proofs.ListLemmas.{each_kept_more}
+use Rattle.dine_draft.proofs.shared.ListLemmas.{each_kept_more}
 use Rattle.dine_reader.proofs.ReadLemmas.{names_in, length-names_in}
 use Rattle.dine_reader.proofs.drafts.edges_in.Goals as goal
 

@@ -5,8 +5,8 @@ use Rattle.std.specs.Str.{bytes_eq}
 use Rattle.std.proofs.lemmas.Iterator.Consumers.{YieldsList-from_rest}
 use Rattle.std.proofs.lemmas.Iterator.Search.{any_from_yields_List}
 use Rattle.dine_reader.specs.RefusalTests.{has_other_key}
-use Rattle.dine_draft.proofs.ListLemmas.{list_any-map}
-use Rattle.dine_reader.proofs.DocumentLemmas.{keys_of-view}
+use Rattle.dine_draft.proofs.shared.ListLemmas.{list_any-map}
+use Rattle.dine_reader.proofs.shared.DocumentLemmas.{keys_of-view}
 use Rattle.dine_reader.proofs.forms.has_other_key.Goals as goal
 
 pub returns-in-Some : goal.returns-in-Some

@@ -1,6 +1,6 @@
 use Rattle.std.proofs.Common.{rules, tests, sym, ◌∙◌}
 use Rattle.toml.specs.View.{view}
-use Rattle.dine_draft.proofs.Searches.{any_seen}
+use Rattle.dine_draft.proofs.shared.Searches.{any_seen}
 use Rattle.dine_reader.specs.RefusalTests.{has_other_key, edge_keys}
 use Rattle.dine_reader.specs.private.Forms.{has_other_key_outside}
 use Rattle.dine_reader.proofs.forms.has_other_key_outside.Goals as goal

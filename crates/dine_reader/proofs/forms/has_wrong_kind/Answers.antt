@@ -2,7 +2,7 @@ use Rattle.std.proofs.Common.{rules, tests, sym, ◌∙◌}
 use Rattle.toml.specs.View.{view}
 use Rattle.dine_reader.specs.RefusalTests.{edge_is_wrong}
 use Rattle.dine_reader.specs.private.Forms.{has_wrong_kind_outside}
-use Rattle.dine_draft.proofs.Searches.{any_seen}
+use Rattle.dine_draft.proofs.shared.Searches.{any_seen}
 use Rattle.dine_reader.proofs.forms.has_wrong_kind.Goals as goal
 
 pub returns-then-has_no_tables : goal.returns-then-has_no_tables

@@ -3,7 +3,7 @@ use Rattle.std.specs.List.{list_any}
 use Rattle.std.specs.Str.{bytes_eq}
 use Rattle.std.proofs.lemmas.Iterator.{YieldsList-from_slice}
 use Rattle.std.proofs.lemmas.Iterator.Search.{any_from_yields_List}
-use Rattle.dine_draft.proofs.ListLemmas.{list_any-map}
+use Rattle.dine_draft.proofs.shared.ListLemmas.{list_any-map}
 use Rattle.dine_reader.proofs.forms.is_among.Goals as goal
 
 pub returns : goal.returns

@@ -3,7 +3,7 @@ use Rattle.std.specs.List.{list_all}
 use Rattle.toml.specs.View.{view}
 use Rattle.dine_reader.specs.RefusalTests.{is_table, is_tables}
 use Rattle.dine_reader.specs.Document.{items_in}
-use Rattle.dine_draft.proofs.Searches.{all_seen}
+use Rattle.dine_draft.proofs.shared.Searches.{all_seen}
 use Rattle.dine_reader.proofs.forms.is_tables.Goals as goal
 
 pub returns-then-is_array : goal.returns-then-is_array

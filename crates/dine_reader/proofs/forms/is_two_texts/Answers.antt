@@ -5,7 +5,7 @@ use Rattle.std.proofs.lemmas.List.{length-map}
 use Rattle.toml.specs.View.{view}
 use Rattle.dine_reader.specs.Document.{items_in}
 use Rattle.dine_reader.specs.RefusalTests.{is_text, is_two_texts}
-use Rattle.dine_draft.proofs.Searches.{all_seen}
+use Rattle.dine_draft.proofs.shared.Searches.{all_seen}
 use Rattle.dine_reader.proofs.forms.is_two_texts.Goals as goal
 
 pub returns-then-items-eq2 : goal.returns-then-items-eq2

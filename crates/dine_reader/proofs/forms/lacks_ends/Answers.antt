@@ -1,6 +1,6 @@
 use Rattle.std.proofs.Common.{codes, rules, tests}
 use Rattle.toml.specs.View.{view}
-use Rattle.dine_draft.proofs.Searches.{any_seen}
+use Rattle.dine_draft.proofs.shared.Searches.{any_seen}
 use Rattle.dine_reader.specs.RefusalTests.{lacks_key}
 use Rattle.dine_reader.proofs.forms.lacks_ends.Goals as goal
 

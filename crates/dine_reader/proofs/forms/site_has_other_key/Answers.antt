@@ -1,7 +1,7 @@
 use Rattle.std.proofs.Common.{rules, tests, sym, ◌∙◌}
 use Rattle.toml.specs.View.{view}
 use Rattle.dine_reader.specs.RefusalTests.{has_other_key, site_has_other_key, job_keys}
-use Rattle.dine_draft.proofs.Searches.{any_seen}
+use Rattle.dine_draft.proofs.shared.Searches.{any_seen}
 use Rattle.dine_reader.proofs.forms.site_has_other_key.Goals as goal
 
 pub returns-then-has_other_site_key : goal.returns-then-has_other_site_key

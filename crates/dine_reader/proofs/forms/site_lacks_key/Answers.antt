@@ -1,7 +1,7 @@
 use Rattle.std.proofs.Common.{codes, rules, tests, sym, ◌∙◌}
 use Rattle.toml.specs.View.{view}
 use Rattle.dine_reader.specs.RefusalTests.{lacks_key, site_lacks_key}
-use Rattle.dine_draft.proofs.Searches.{any_seen}
+use Rattle.dine_draft.proofs.shared.Searches.{any_seen}
 use Rattle.dine_reader.proofs.forms.site_lacks_key.Goals as goal
 
 pub returns-then-lacks_key : goal.returns-then-lacks_key

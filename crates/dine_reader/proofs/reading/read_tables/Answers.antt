@@ -1,6 +1,6 @@
 use Rattle.std.proofs.Common.{Result, Ok, Err, OnOk, IfErr, sym, ◌∙◌}
 use Rattle.toml.specs.View.{view}
-use Rattle.dine_reader.proofs.DocumentLemmas.{first_of_document}
+use Rattle.dine_reader.proofs.shared.DocumentLemmas.{first_of_document}
 use Rattle.dine_reader.proofs.FormLemmas.{by_flaws, other_version}
 use Rattle.dine_reader.proofs.reading.read_tables.Goals as goal
 

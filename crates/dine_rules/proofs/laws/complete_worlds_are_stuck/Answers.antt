@@ -1,4 +1,4 @@
-use Rattle.dine_rules.proofs.ends_of_runs.Complete.{complete_is_stuck}
+use Rattle.dine_rules.proofs.shared.ends_of_runs.Complete.{complete_is_stuck}
 use Rattle.dine_rules.proofs.laws.complete_worlds_are_stuck.Goals as goal
 
 pub returns : goal.returns

@@ -1,5 +1,5 @@
-use Rattle.dine_rules.proofs.links.WorldStreams.{reached_kept}
-use Rattle.dine_rules.proofs.links.EdgeSums.{one_fork_of_edge, one_token_of_edge}
+use Rattle.dine_rules.proofs.shared.links.WorldStreams.{reached_kept}
+use Rattle.dine_rules.proofs.shared.links.EdgeSums.{one_fork_of_edge, one_token_of_edge}
 use Rattle.dine_rules.proofs.laws.edges_have_one_fork_and_one_token.Goals as goal
 
 pub returns : goal.returns

@@ -1,4 +1,4 @@
-use Rattle.dine_rules.proofs.counting.EffectBounds.{effects_bounded, events_bounded}
+use Rattle.dine_rules.proofs.shared.counting.EffectBounds.{effects_bounded, events_bounded}
 use Rattle.dine_rules.proofs.laws.events_are_bounded.Goals as goal
 
 pub returns : goal.returns

@@ -1,4 +1,4 @@
-use Rattle.dine_rules.proofs.ends_of_runs.Finishing.{finish_halts, whole_run_halts, halted_is_complete}
+use Rattle.dine_rules.proofs.shared.ends_of_runs.Finishing.{finish_halts, whole_run_halts, halted_is_complete}
 use Rattle.dine_rules.proofs.laws.finished_runs_are_complete.Goals as goal
 
 pub returns : goal.returns

@@ -1,5 +1,5 @@
-use Rattle.dine_rules.proofs.ends_of_runs.ForkLogs.{log_in_hand, log_in_link}
-use Rattle.dine_rules.proofs.links.WorldStreams.{reached_kept}
+use Rattle.dine_rules.proofs.shared.ends_of_runs.ForkLogs.{log_in_hand, log_in_link}
+use Rattle.dine_rules.proofs.shared.links.WorldStreams.{reached_kept}
 use Rattle.dine_rules.proofs.laws.fork_logs_are_of_the_one_fork.Goals as goal
 
 pub returns : goal.returns

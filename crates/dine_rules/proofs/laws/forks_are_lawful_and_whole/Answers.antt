@@ -1,6 +1,6 @@
-use Rattle.dine_rules.proofs.ends_of_runs.Finishing.{whole_run_halts, halted_is_complete}
-use Rattle.dine_rules.proofs.ends_of_runs.ForkLogs.{log_lawful, log_whole}
-use Rattle.dine_rules.proofs.links.WorldStreams.{reached_kept}
+use Rattle.dine_rules.proofs.shared.ends_of_runs.Finishing.{whole_run_halts, halted_is_complete}
+use Rattle.dine_rules.proofs.shared.ends_of_runs.ForkLogs.{log_lawful, log_whole}
+use Rattle.dine_rules.proofs.shared.links.WorldStreams.{reached_kept}
 use Rattle.dine_rules.proofs.laws.forks_are_lawful_and_whole.Goals as goal
 
 pub returns : goal.returns

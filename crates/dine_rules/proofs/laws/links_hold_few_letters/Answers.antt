@@ -1,5 +1,5 @@
-use Rattle.dine_rules.proofs.links.WorldStreams.{reached_kept}
-use Rattle.dine_rules.proofs.links.Links.{link_holds, link_forks, link_requests, link_dones, link_closes, link_letters}
+use Rattle.dine_rules.proofs.shared.links.WorldStreams.{reached_kept}
+use Rattle.dine_rules.proofs.shared.links.Links.{link_holds, link_forks, link_requests, link_dones, link_closes, link_letters}
 use Rattle.dine_rules.proofs.laws.links_hold_few_letters.Goals as goal
 
 pub returns : goal.returns

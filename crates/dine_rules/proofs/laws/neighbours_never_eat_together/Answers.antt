@@ -1,4 +1,4 @@
-use Rattle.dine_rules.proofs.links.EatersApart.{eater_holds, eater_alone}
+use Rattle.dine_rules.proofs.shared.links.EatersApart.{eater_holds, eater_alone}
 use Rattle.dine_rules.proofs.laws.neighbours_never_eat_together.Goals as goal
 
 pub returns : goal.returns

@@ -1,4 +1,4 @@
-use Rattle.dine_rules.proofs.links.NextLetters.{reached_no_breach}
+use Rattle.dine_rules.proofs.shared.links.NextLetters.{reached_no_breach}
 use Rattle.dine_rules.proofs.laws.next_letters_meet_no_breach.Goals as goal
 
 pub returns : goal.returns

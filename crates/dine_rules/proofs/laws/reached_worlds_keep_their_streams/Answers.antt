@@ -1,4 +1,4 @@
-use Rattle.dine_rules.proofs.links.WorldStreams.{reached_kept}
+use Rattle.dine_rules.proofs.shared.links.WorldStreams.{reached_kept}
 use Rattle.dine_rules.proofs.laws.reached_worlds_keep_their_streams.Goals as goal
 
 pub returns-clause-sites : goal.returns-clause-sites

@@ -1,5 +1,5 @@
-use Rattle.dine_rules.proofs.one_site.Site.{start_keeps}
-use Rattle.dine_rules.proofs.one_site.SiteSteps.{step_keeps}
+use Rattle.dine_rules.proofs.shared.one_site.Site.{start_keeps}
+use Rattle.dine_rules.proofs.shared.one_site.SiteSteps.{step_keeps}
 use Rattle.dine_rules.proofs.laws.streams_are_kept.Goals as goal
 
 pub returns : goal.returns

@@ -3,7 +3,7 @@ use Rattle.dine_graph.specs.Plan.{SeenPlan}
 use Rattle.dine_rules.specs.declared.events.EventKind.{EventKind}
 use Rattle.dine_rules.specs.Journals.{IsLowestFirst, IsWholeOrder}
 use Rattle.dine_rules.specs.Shown.{plan_shown}
-use Rattle.dine_rules.proofs.journals.Shown.{sites_shown}
+use Rattle.dine_rules.proofs.shared.journals.Shown.{sites_shown}
 use Rattle.dine_order.specs.declared.orders.OrderFault.{OrderFault}
 use Rattle.dine_order.specs.declared.orders.OrderFault.TheVariants.{CountDiffers, Stuck, NotClosed, Memory}
 use Rattle.dine_order.specs.Orders.{OrderFaultIs}

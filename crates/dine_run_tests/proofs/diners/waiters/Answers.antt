@@ -2,7 +2,7 @@ use Rattle.std.proofs.Common.{◌≡◌, ◌≤◌, length, ap, subst, vec_items
 use Rattle.dine_graph.specs.Plan.{job_count}
 use Rattle.dine_run.specs.CallLogs.{SeenCallLog}
 use Rattle.dine_run_tests.specs.declared.diners.Waiter.{Waiter}
-use Rattle.dine_threads.proofs.all_sites.Collected.{each_more, each_of_none}
+use Rattle.dine_threads.proofs.shared.all_sites.Collected.{each_more, each_of_none}
 use Rattle.dine_run_tests.proofs.diners.waiters.Goals as goal
 
 pub loop-site-init : goal.loop-site-init

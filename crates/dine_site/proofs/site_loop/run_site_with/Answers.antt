@@ -12,8 +12,8 @@ use Rattle.dine_site.specs.private.Running.{HasChecked, IsObeying, IsRunning, Is
 use Rattle.dine_site.specs.declared.site_loop.running.Running.{Running}
 use Rattle.dine_site.specs.SiteEnds.{IsSiteEnd}
 use Rattle.dine_site.proofs.one_site.Meals.{eaten_nothing, eaten_same}
-use Rattle.dine_site.proofs.one_site.Obeying.{obeying_as, obeys_as, obeys_end, obeys_fresh}
-use Rattle.dine_site.proofs.one_site.Quits.{quit_reported, quit_reported_before}
+use Rattle.dine_site.proofs.shared.one_site.Obeying.{obeying_as, obeys_as, obeys_end, obeys_fresh}
+use Rattle.dine_site.proofs.shared.one_site.Quits.{quit_reported, quit_reported_before}
 use Rattle.dine_site.proofs.one_site.Ways.{start_runs}
 use Rattle.dine_site.specs.Threads.{IsThreadRun}
 use Rattle.dine_site.proofs.one_site.Working.{worked_nothing}

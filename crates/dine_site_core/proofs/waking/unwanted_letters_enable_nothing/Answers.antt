@@ -1,4 +1,4 @@
-use Rattle.dine_site_core.proofs.own_events.Unwanted.{unwanted_next, unwanted_wants}
+use Rattle.dine_site_core.proofs.shared.own_events.Unwanted.{unwanted_next, unwanted_wants}
 use Rattle.dine_site_core.proofs.waking.unwanted_letters_enable_nothing.Goals as goal
 
 pub returns : goal.returns

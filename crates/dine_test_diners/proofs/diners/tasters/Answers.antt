@@ -1,7 +1,7 @@
 use Rattle.std.proofs.Common.{◌≡◌, ◌≤◌, length, subst, vec_items, arith}
 use Rattle.dine_graph.specs.Plan.{job_count}
 use Rattle.dine_test_diners.specs.declared.diners.Taster.{Taster}
-use Rattle.dine_threads.proofs.all_sites.Collected.{each_more, each_of_none}
+use Rattle.dine_threads.proofs.shared.all_sites.Collected.{each_more, each_of_none}
 use Rattle.dine_test_diners.proofs.diners.tasters.Goals as goal
 
 pub loop-site-init : goal.loop-site-init

@@ -3,7 +3,7 @@ use Rattle.std.proofs.lemmas.List.{length-replicate}
 use Rattle.dine_graph.specs.Plan.{edge_count}
 use Rattle.dine_token.specs.Fork.{SeenFork}
 use Rattle.dine_threads.specs.private.Collecting.{forks_left, forks_found, in_slots}
-use Rattle.dine_threads.proofs.all_sites.Collected.{length-in_slots, links_of_pairs, pairs_joined, rows_full}
+use Rattle.dine_threads.proofs.shared.all_sites.Collected.{length-in_slots, links_of_pairs, pairs_joined, rows_full}
 use Rattle.dine_threads.proofs.collecting.collect.Goals as goal
 
 pub pair_up-requires-clause-full : goal.pair_up-requires-clause-full

@@ -1,6 +1,6 @@
 use Rattle.std.proofs.Common.{rules, ◌≡◌, ◌≤◌, length, vec_len, vec_capacity, vec_items, ap, arith}
 use Rattle.dine_graph.specs.Plan.{edges_of}
-use Rattle.dine_threads.proofs.all_sites.Collected.{each_of_none, each_more}
+use Rattle.dine_threads.proofs.shared.all_sites.Collected.{each_of_none, each_more}
 use Rattle.dine_threads.proofs.collecting.empty_rows.Goals as goal
 
 pub loop-site-init : goal.loop-site-init

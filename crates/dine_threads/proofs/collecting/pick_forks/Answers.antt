@@ -3,7 +3,7 @@ use Rattle.std.proofs.lemmas.Grind.{common_steps}
 use Rattle.std.proofs.lemmas.List.{nil_from_length}
 use Rattle.std.specs.Vec.Iter.{into_iter_items}
 use Rattle.dine_threads.specs.private.Collecting.{forks_found}
-use Rattle.dine_threads.proofs.all_sites.Collected.{moved_split, none_left}
+use Rattle.dine_threads.proofs.shared.all_sites.Collected.{moved_split, none_left}
 use Rattle.dine_threads.proofs.collecting.pick_forks.Goals as goal
 
 pub loop-slot-init : goal.loop-slot-init

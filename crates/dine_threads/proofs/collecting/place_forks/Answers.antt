@@ -3,7 +3,7 @@ use Rattle.std.proofs.lemmas.Grind.{common_steps}
 use Rattle.std.specs.Vec.Iter.{into_iter_items}
 use Rattle.dine_token.specs.Fork.{SeenFork}
 use Rattle.dine_threads.specs.private.Collecting.{in_slots}
-use Rattle.dine_threads.proofs.lists.Zips.{all_first, all_rest}
+use Rattle.dine_threads.proofs.shared.lists.Zips.{all_first, all_rest}
 use Rattle.dine_threads.proofs.collecting.place_forks.Goals as goal
 
 -- the next fork is in_slots

@@ -6,9 +6,9 @@ use Rattle.dine_link.specs.Lanes.{seen_end}
 use Rattle.dine_link.specs.Links.{SeenLink, link_of}
 use Rattle.dine_threads.specs.private.Collecting.{AreJoined, IsTakenToClose, links_left}
 use Rattle.dine_threads.specs.Gathered.{IsTakenInOrder}
-use Rattle.dine_threads.proofs.all_sites.Collected.{none_left}
+use Rattle.dine_threads.proofs.shared.all_sites.Collected.{none_left}
 use Rattle.dine_threads.proofs.lists.Pairs.{links_left-push}
-use Rattle.dine_threads.proofs.lists.Zips.{all_first, all_rest, two_more, all_two_more}
+use Rattle.dine_threads.proofs.shared.lists.Zips.{all_first, all_rest, two_more, all_two_more}
 use Rattle.dine_threads.proofs.collecting.reconcile_all.Goals as goal
 
 pub loop-pair-init : goal.loop-pair-init

@@ -7,8 +7,8 @@ use Rattle.dine_graph.specs.Plan.{edge_count}
 use Rattle.dine_site.specs.declared.port.Port.{Port}
 use Rattle.dine_site.specs.declared.site_end.SiteEnd.{SiteEnd}
 use Rattle.dine_threads.specs.private.Collecting.{AreForksOf, forks_left, in_slots, out_of}
-use Rattle.dine_threads.proofs.lists.Zips.{mapped_split}
-use Rattle.dine_threads.proofs.all_sites.Collected.{all_parts, in_slots-append, length-in_slots, moved_as, none_left}
+use Rattle.dine_threads.proofs.shared.lists.Zips.{mapped_split}
+use Rattle.dine_threads.proofs.shared.all_sites.Collected.{all_parts, in_slots-append, length-in_slots, moved_as, none_left}
 use Rattle.dine_threads.proofs.collecting.split_ends.Goals as goal
 
 pub loop-end-init : goal.loop-end-init

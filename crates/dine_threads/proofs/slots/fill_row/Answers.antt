@@ -1,7 +1,7 @@
 use Rattle.std.proofs.Common.{◌≡◌, Some, [], ◌++◌, map, ap, ◌∙◌, arith, vec_items}
 use Rattle.std.specs.Vec.Iter.{into_iter_items}
 use Rattle.std.proofs.lemmas.List.{nil_from_length}
-use Rattle.dine_threads.proofs.all_sites.Collected.{moved_split, none_left}
+use Rattle.dine_threads.proofs.shared.all_sites.Collected.{moved_split, none_left}
 use Rattle.dine_threads.proofs.slots.fill_row.Goals as goal
 
 pub loop-thing-init : goal.loop-thing-init

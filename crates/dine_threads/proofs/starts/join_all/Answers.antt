@@ -1,6 +1,6 @@
 use Rattle.std.proofs.Common.{vec_items}
 use Rattle.dine_threads.specs.private.SiteStarts.{IsEndOf, given_to}
-use Rattle.dine_threads.proofs.lists.Zips.{AllZip-mapped}
+use Rattle.dine_threads.proofs.shared.lists.Zips.{AllZip-mapped}
 use Rattle.dine_threads.proofs.starts.join_all.Goals as goal
 
 pub returns : goal.returns

@@ -3,8 +3,8 @@ use Rattle.std.specs.List.{AllZip}
 use Rattle.std.specs.Vec.Iter.{into_iter_items}
 use Rattle.std.specs.declared.thread.PromisedHandle.{PromisedHandle}
 use Rattle.std.proofs.lemmas.List.{nil_from_length}
-use Rattle.dine_threads.proofs.all_sites.Collected.{none_left}
-use Rattle.dine_threads.proofs.lists.Zips.{AllZip-grown}
+use Rattle.dine_threads.proofs.shared.all_sites.Collected.{none_left}
+use Rattle.dine_threads.proofs.shared.lists.Zips.{AllZip-grown}
 use Rattle.dine_threads.proofs.starts.join_each.Goals as goal
 
 pub push_reserved-requires : goal.push_reserved-requires

@@ -14,7 +14,7 @@ use Rattle.dine_threads.specs.declared.starts.SiteStart.{SiteStart}
 use Rattle.dine_threads.specs.private.Openings.{HasPorts}
 use Rattle.dine_threads.specs.private.SiteStarts.{IsReady}
 use Rattle.dine_threads.proofs.all_sites.Edges.{slice_get-push}
-use Rattle.dine_threads.proofs.lists.Zips.{all_more, mapped_all, mapped_split}
+use Rattle.dine_threads.proofs.shared.lists.Zips.{all_more, mapped_all, mapped_split}
 use Rattle.dine_threads.proofs.starts.prepare_all.Goals as goal
 
 -- a start by its parts

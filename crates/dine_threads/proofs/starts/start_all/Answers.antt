@@ -2,7 +2,7 @@ use Rattle.std.proofs.Common.{◌≡◌, ◌<◌, ◌++◌, All, [], map, sym, a
 use Rattle.std.specs.Vec.Iter.{into_iter_items}
 use Rattle.std.proofs.lemmas.List.{nil_from_length}
 use Rattle.dine_threads.specs.private.SiteStarts.{IsReady, given_to}
-use Rattle.dine_threads.proofs.lists.Zips.{all_first, all_rest, mapped_all, mapped_split}
+use Rattle.dine_threads.proofs.shared.lists.Zips.{all_first, all_rest, mapped_all, mapped_split}
 use Rattle.dine_threads.proofs.starts.start_all.Goals as goal
 
 pub start_within-requires-after_bounds : goal.start_within-requires-after_bounds

@@ -7,7 +7,7 @@ use Rattle.dine_token.specs.Log.{meals_of}
 use Rattle.dine_graph.specs.Plan.{SeenPlan, edge_count, ends_of}
 use Rattle.dine_threads.specs.declared.tables.EdgeRow.{EdgeRow}
 use Rattle.dine_threads.specs.Tables.{logged_row}
-use Rattle.dine_threads.proofs.all_sites.Rows.{fork_count}
+use Rattle.dine_threads.proofs.shared.all_sites.Rows.{fork_count}
 use Rattle.dine_threads.proofs.tables.edge_table.Goals as goal
 
 -- the fork that is read stands at its edge

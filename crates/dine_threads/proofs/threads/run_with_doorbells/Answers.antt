@@ -12,7 +12,7 @@ use Rattle.dine_threads.specs.private.Wirings.{AreWired}
 use Rattle.dine_threads.proofs.all_sites.Brokens.{all_closed_early, all_joined, states_left}
 use Rattle.dine_threads.proofs.all_sites.Gatherings.{AreAllLeft, left_of_children, ends_are_whole, still_wired, links_by_edge, links_are_whole, outs_are_finished, outs_of_diners, none_found, lowest_found}
 use Rattle.dine_threads.proofs.all_sites.Headlines.{headline, all_acted, ate_few, journals_count, tokens_stand}
-use Rattle.dine_threads.proofs.all_sites.Ordered.{order_of_run}
+use Rattle.dine_threads.proofs.shared.all_sites.Ordered.{order_of_run}
 use Rattle.dine_threads.proofs.all_sites.Timings.{all_timed}
 use Rattle.dine_threads.proofs.threads.run_with_doorbells.Goals as goal
 

@@ -5,7 +5,7 @@ use Rattle.dine_threads.specs.private.Openings.{bells_of}
 use Rattle.dine_threads.specs.private.Setups.{rows_of_starts}
 use Rattle.dine_threads.specs.declared.opening.SitePorts.{SitePorts}
 use Rattle.dine_threads.specs.declared.starts.SiteStart.{SiteStart}
-use Rattle.dine_threads.proofs.lists.Zips.{mapped_through}
+use Rattle.dine_threads.proofs.shared.lists.Zips.{mapped_through}
 use Rattle.dine_threads.proofs.threads.set_up.Goals as goal
 
 pub returns : goal.returns

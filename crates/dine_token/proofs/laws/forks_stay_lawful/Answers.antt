@@ -1,5 +1,5 @@
-use Rattle.dine_token.proofs.Lawfulness.{IsLawful-none}
-use Rattle.dine_token.proofs.Forks.{IsEnd-location, IsFork-after_move, IsFork-after_meal}
+use Rattle.dine_token.proofs.shared.Lawfulness.{IsLawful-none}
+use Rattle.dine_token.proofs.shared.Forks.{IsEnd-location, IsFork-after_move, IsFork-after_meal}
 use Rattle.dine_token.proofs.laws.forks_stay_lawful.Goals as goal
 
 pub returns-clause-opened : goal.returns-clause-opened

@@ -1,4 +1,4 @@
-use Rattle.dine_token.proofs.Bounds.{length-lawful}
+use Rattle.dine_token.proofs.shared.Bounds.{length-lawful}
 use Rattle.dine_token.proofs.laws.lawful_log_is_bounded.Goals as goal
 
 pub returns : goal.returns

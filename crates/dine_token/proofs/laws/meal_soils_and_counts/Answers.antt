@@ -1,4 +1,4 @@
-use Rattle.dine_token.proofs.Logs.{is_dirty-push_meal, location_of-push_meal, meals_of-push_own, meals_of-push_other}
+use Rattle.dine_token.proofs.shared.Logs.{is_dirty-push_meal, location_of-push_meal, meals_of-push_own, meals_of-push_other}
 use Rattle.dine_token.proofs.laws.meal_soils_and_counts.Goals as goal
 
 pub returns-clause-dirty : goal.returns-clause-dirty

@@ -1,4 +1,4 @@
-use Rattle.dine_token.proofs.Logs.{is_dirty-push_move, clean_ends_in_move, location_of-push_move, meals_of-push_move}
+use Rattle.dine_token.proofs.shared.Logs.{is_dirty-push_move, clean_ends_in_move, location_of-push_move, meals_of-push_move}
 use Rattle.dine_token.proofs.laws.move_cleans_and_sends.Goals as goal
 
 pub returns-clause-clean : goal.returns-clause-clean

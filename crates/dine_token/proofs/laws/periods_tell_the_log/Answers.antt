@@ -1,5 +1,5 @@
 use Rattle.std.proofs.Common.{◌+◌, arith}
-use Rattle.dine_token.proofs.Bounds.{moves-lawful}
+use Rattle.dine_token.proofs.shared.Bounds.{moves-lawful}
 use Rattle.dine_token.proofs.Periods.{length-periods_of}
 use Rattle.dine_token.proofs.LawfulPeriods.{lawful_has_periods}
 use Rattle.dine_token.proofs.laws.periods_tell_the_log.Goals as goal

@@ -1,4 +1,4 @@
-use Rattle.dine_rules.proofs.links.WorldStreams.{reached_kept}
+use Rattle.dine_rules.proofs.shared.links.WorldStreams.{reached_kept}
 use Rattle.dine_waking.proofs.Asleep.{all_asleep_is_complete}
 use Rattle.dine_waking.proofs.Progress.{complete_finished}
 use Rattle.dine_waking.proofs.laws.worlds_asleep_are_complete.Goals as goal

@@ -1,7 +1,7 @@
 use Rattle.std.proofs.Common.{ℕ, List, [], ◌∷◌, ◌++◌, sym, ◌∙◌, ap}
 use Rattle.dine_wire.specs.Runs.{is_of_run}
-use Rattle.dine_wire.proofs.CarriedGrowth.{bytes_grow, grows_by_put, grows_by_take}
-use Rattle.dine_wire.proofs.LettersOfRuns.{is_own, of_run-other, of_run-own}
+use Rattle.dine_wire.proofs.shared.CarriedGrowth.{bytes_grow, grows_by_put, grows_by_take}
+use Rattle.dine_wire.proofs.shared.LettersOfRuns.{is_own, of_run-other, of_run-own}
 use Rattle.dine_wire.proofs.laws.letters_are_taken_one_by_one.Goals as goal
 
 pub returns : goal.returns

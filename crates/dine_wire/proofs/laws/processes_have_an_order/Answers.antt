@@ -1,4 +1,4 @@
-use Rattle.dine_rules.proofs.timed.OrdersShown.{order_shown}
+use Rattle.dine_rules.proofs.shared.timed.OrdersShown.{order_shown}
 use Rattle.dine_wire.proofs.CarriedSites.{ordered_by_bytes}
 use Rattle.dine_wire.proofs.laws.processes_have_an_order.Goals as goal
 

@@ -1,4 +1,4 @@
-use Rattle.dine_rules.proofs.two_ends.TwoEnds.{refused_at}
+use Rattle.dine_rules.proofs.shared.two_ends.TwoEnds.{refused_at}
 use Rattle.dine_wire.proofs.CarriedSites.{linked_by_bytes}
 use Rattle.dine_wire.proofs.laws.refused_bytes_are_closes.Goals as goal
 

@@ -1,6 +1,6 @@
 use Rattle.dine_rules.specs.Holdings.{fork_at}
 use Rattle.dine_rules.specs.Local.{edge_at, traffic_at}
-use Rattle.dine_wire.proofs.CarriedGrowth.{last_is_kept, none_is_kept}
+use Rattle.dine_wire.proofs.shared.CarriedGrowth.{last_is_kept, none_is_kept}
 use Rattle.dine_wire.proofs.laws.the_last_fork_is_kept.Goals as goal
 
 pub returns : goal.returns

@@ -1,6 +1,6 @@
 use Rattle.std.proofs.Common.{◌≡◌, ℕ, ◌+◌, ◌-◌, refl, sym, ◌∙◌, ap, arith}
 use Rattle.dine_token.specs.Fork.{SeenFork, IsFork}
-use Rattle.dine_token.proofs.Forks.{IsEnd-location}
+use Rattle.dine_token.proofs.shared.Forks.{IsEnd-location}
 use Rattle.dine_graph.specs.Plan.{SeenPlan}
 use Rattle.dine_rules.specs.declared.letters.Letter.{Letter}
 use Rattle.dine_rules.specs.declared.letters.Letter.TheVariants as letter

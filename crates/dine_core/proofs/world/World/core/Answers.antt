@@ -1,5 +1,5 @@
 use Rattle.std.proofs.Common.{◌≡◌, ◌<◌, ◌≤◌, length, get_or, ap, ◌∙◌, arith}
-use Rattle.dine_site_core.proofs.lists.Options.{match_none}
+use Rattle.dine_site_core.proofs.shared.lists.Options.{match_none}
 use Rattle.dine_core.proofs.all_sites.WorldOpened.{past_the_sites, a_state, a_core}
 use Rattle.dine_core.proofs.world.World.core.Goals as goal
 

@@ -1,6 +1,6 @@
 use Rattle.std.proofs.Common.{arith}
 use Rattle.dine_rules.specs.World.{events_at, is_enabled}
-use Rattle.dine_rules.proofs.counting.KindNumbers.{more_sites}
+use Rattle.dine_rules.proofs.shared.counting.KindNumbers.{more_sites}
 use Rattle.dine_core.proofs.world.World.count.Goals as goal
 
 pub loop-site-preserved : goal.loop-site-preserved

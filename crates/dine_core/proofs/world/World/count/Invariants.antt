@@ -1,7 +1,7 @@
 use Rattle.std.proofs.Common.{◌≡◌, ◌*◌, ◌≤◌, length}
 use Rattle.dine_rules.specs.World.{events_at, is_enabled}
 use Rattle.dine_core.specs.Worlds.{ForEachWorld}
-use Rattle.dine_rules.proofs.counting.KindNumbers.{of_sites}
+use Rattle.dine_rules.proofs.shared.counting.KindNumbers.{of_sites}
 use Rattle.dine_core.proofs.world.World.count.Given as goal
 
 -- so many events of the sites passed over are enabled

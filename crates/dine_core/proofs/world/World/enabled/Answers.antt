@@ -2,7 +2,7 @@ use Rattle.std.proofs.Common.{◌≡◌, length, slice_get, arith, ap, sym, ◌�
 use Rattle.std.proofs.lemmas.Option.{slice_get_past}
 use Rattle.dine_graph.specs.Plan.{site_count}
 use Rattle.dine_rules.specs.World.{enabled_events, events_at, is_enabled}
-use Rattle.dine_rules.proofs.counting.KindNumbers.{more_sites, of_sites}
+use Rattle.dine_rules.proofs.shared.counting.KindNumbers.{more_sites, of_sites}
 use Rattle.dine_core.proofs.enabled_events.Counts.{event_behind}
 use Rattle.dine_core.proofs.world.World.enabled.Goals as goal
 

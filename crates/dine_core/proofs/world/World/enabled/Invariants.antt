@@ -1,7 +1,7 @@
 use Rattle.std.proofs.Common.{◌≡◌, ◌+◌, length}
 use Rattle.dine_rules.specs.World.{events_at, is_enabled}
 use Rattle.dine_core.specs.Worlds.{ForEachWorld}
-use Rattle.dine_rules.proofs.counting.KindNumbers.{of_sites}
+use Rattle.dine_rules.proofs.shared.counting.KindNumbers.{of_sites}
 use Rattle.dine_core.proofs.world.World.enabled.Given as goal
 
 -- those that are left are to come after those of the sites passed over

@@ -2,8 +2,8 @@ use Rattle.std.proofs.Common.{◌≡◌, ◌-◌, ◌≤◌, ℕ, sym, ◌∙◌
 use Rattle.dine_graph.specs.Plan.{SeenPlan}
 use Rattle.dine_rules.specs.World.{WorldState, enabled_events}
 use Rattle.dine_core.specs.Worlds.{IsWorldOf, SeenWorld}
-use Rattle.dine_rules.proofs.ends_of_runs.Finishing.{none_first, stuck_is_complete}
-use Rattle.dine_site_core.proofs.lists.Options.{none_from}
+use Rattle.dine_rules.proofs.shared.ends_of_runs.Finishing.{none_first, stuck_is_complete}
+use Rattle.dine_site_core.proofs.shared.lists.Options.{none_from}
 use Rattle.dine_core.proofs.all_sites.WorldSchedules.{IsUnderWay, chosen_can, one_left, runs_to, under_way_at_start, under_way_next}
 use Rattle.dine_core.proofs.world.World.finish.Goals as goal
 

@@ -2,7 +2,7 @@ use Rattle.std.proofs.Common.{Bool, List, Vec, Global, [], ◌≡◌, ◌∙◌,
 use Rattle.dine_graph.specs.Plan.{SeenPlan}
 use Rattle.dine_rules.specs.Outcomes.{with_outcomes}
 use Rattle.dine_rules.specs.World.{start}
-use Rattle.dine_rules.proofs.journals.OtherOutcomes.{own-outcomes}
+use Rattle.dine_rules.proofs.shared.journals.OtherOutcomes.{own-outcomes}
 use Rattle.dine_core.specs.Worlds.{IsWorldOf, lists_of}
 use Rattle.dine_core.proofs.world.World.open.Goals as goal
 

@@ -2,7 +2,7 @@ use Rattle.std.proofs.Common.{Bool, List, arith, ap, length, subst, sym, ◌∙�
 use Rattle.std.proofs.lemmas.List.FromFn.{length-map-range_with_len}
 use Rattle.dine_graph.specs.Plan.{SeenPlan, edge_count, site_count}
 use Rattle.dine_rules.specs.Outcomes.{with_outcomes}
-use Rattle.dine_rules.proofs.journals.OtherOutcomes.{plan-stays, sites-same}
+use Rattle.dine_rules.proofs.shared.journals.OtherOutcomes.{plan-stays, sites-same}
 use Rattle.dine_rules.specs.World.{start}
 use Rattle.dine_core.specs.private.EnabledSites.{HasAllEnabled}
 use Rattle.dine_core.specs.private.Counts.{HasCounts}

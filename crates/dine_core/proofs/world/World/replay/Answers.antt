@@ -2,7 +2,7 @@ use Rattle.std.proofs.Common.{◌+◌, ◌∷◌, ℕ, List, drop, get_or, sym, 
 use Rattle.dine_graph.specs.Plan.{SeenPlan}
 use Rattle.dine_rules.specs.World.{WorldState}
 use Rattle.dine_core.specs.Worlds.{IsWorldOf, SeenWorld}
-use Rattle.dine_site_core.proofs.lists.Options.{none_from}
+use Rattle.dine_site_core.proofs.shared.lists.Options.{none_from}
 use Rattle.dine_core.proofs.all_sites.WorldSchedules.{IsReplaying, chosen_can, drop_all, drop_choice, replayed, replaying_at_start, replaying_next, replaying_on}
 use Rattle.dine_core.proofs.world.World.replay.Goals as goal
 use Rattle.dine_core.proofs.world.World.replay.Goals.{in-Some, in_default}

@@ -2,7 +2,7 @@ use Rattle.std.proofs.Common.{◌<◌, Bool, List, count_by, sym, ◌∙◌, sub
 use Rattle.dine_core.specs.private.EnabledSites.{HasAllEnabled}
 use Rattle.dine_core.proofs.enabled_events.FirstSite.{asleep, fewer, still_all, still_before}
 use Rattle.dine_core.proofs.enabled_events.FirstEvents.{first_of_all, none_of_all, still_at}
-use Rattle.dine_site_core.proofs.lists.Options.{none_from}
+use Rattle.dine_site_core.proofs.shared.lists.Options.{none_from}
 use Rattle.dine_core.proofs.world.World.search.Goals as goal
 
 pub returns-in-Some-first_at-clause-first : goal.returns-in-Some-first_at-clause-first

@@ -11,9 +11,9 @@ use Rattle.dine_site_core.specs.Places.{breach_at, place_at}
 use Rattle.dine_core.specs.WorldSites.{can_do, meal_of, next_in, outcomes_of}
 use Rattle.dine_core.specs.private.StepsOfSites.{SiteStep, SiteSteps, TakesAllowed, meets_no_breach, step_in}
 use Rattle.dine_site_core.specs.Standing.{all_places}
-use Rattle.dine_site_core.proofs.one_site.Breaches.{breach_is, may_take}
-use Rattle.dine_core.proofs.all_sites.OpenedSites.{none_applies, meal-taken, meal_is, within_of}
-use Rattle.dine_site_core.proofs.lists.Options.{some_of}
+use Rattle.dine_site_core.proofs.shared.one_site.Breaches.{breach_is, may_take}
+use Rattle.dine_core.proofs.shared.all_sites.OpenedSites.{none_applies, meal-taken, meal_is, within_of}
+use Rattle.dine_site_core.proofs.shared.lists.Options.{some_of}
 use Rattle.dine_core.proofs.world.acts.act.Goals as goal
 
 pub returns-in-Begin-clause-does : goal.returns-in-Begin-clause-does

@@ -3,7 +3,7 @@ use Rattle.std.proofs.lemmas.Bool.{and_parts}
 use Rattle.dine_rules.specs.declared.events.EventKind.TheVariants as event
 use Rattle.dine_rules.specs.Steps as step
 use Rattle.dine_core.specs.WorldSites.{can_do}
-use Rattle.dine_core.proofs.all_sites.OpenedSites.{within_of}
+use Rattle.dine_core.proofs.shared.all_sites.OpenedSites.{within_of}
 use Rattle.dine_core.proofs.all_sites.Shapes.{puts_as}
 use Rattle.dine_core.proofs.world.acts.letter_of.Goals as goal
 

@@ -1,6 +1,6 @@
 use Rattle.std.proofs.Common.{arith, sym, ◌∙◌}
-use Rattle.dine_site_core.proofs.lists.Options.{none_from}
-use Rattle.dine_set.proofs.NthPosition.{nth_position-None}
+use Rattle.dine_site_core.proofs.shared.lists.Options.{none_from}
+use Rattle.dine_set.proofs.shared.NthPosition.{nth_position-None}
 use Rattle.dine_core.proofs.world.acts.nth_kind.Goals as goal
 
 pub overflow_sub-n : goal.overflow_sub-n

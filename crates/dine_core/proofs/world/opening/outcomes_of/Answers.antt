@@ -7,7 +7,7 @@ use Rattle.dine_graph.specs.Plan.{SeenPlan, SeenJob, job_count, jobs_of, no_job}
 use Rattle.dine_rules.specs.Outcomes.{with_outcomes}
 use Rattle.dine_core.specs.WorldSites.{outcomes_of}
 use Rattle.dine_core.specs.Worlds.{lists_of}
-use Rattle.dine_rules.proofs.journals.OtherOutcomes.{jobs-same}
+use Rattle.dine_rules.proofs.shared.journals.OtherOutcomes.{jobs-same}
 use Rattle.dine_core.proofs.world.opening.outcomes_of.Goals as goal
 
 -- the outcome of one job more

@@ -2,7 +2,7 @@ use Rattle.std.proofs.Common.{◌≡◌, arith, subst}
 use Rattle.dine_graph.specs.Plan.{SeenPlan, site_count}
 use Rattle.dine_rules.specs.Outcomes.{with_outcomes}
 use Rattle.dine_core.specs.Worlds.{lists_of}
-use Rattle.dine_rules.proofs.journals.OtherOutcomes.{sites-same}
+use Rattle.dine_rules.proofs.shared.journals.OtherOutcomes.{sites-same}
 use Rattle.dine_core.proofs.all_sites.WorldOpened.{AreFresh, fresh_more, fresh_stand}
 use Rattle.dine_core.proofs.world.opening.sites_of.Goals as goal
 

@@ -1,6 +1,6 @@
 use Rattle.std.proofs.Common.{map, sym, ap, ◌∙◌}
 use Rattle.dine_draft.specs.Draft.{ends_of_edge, seen_draft, value_of_edge}
-use Rattle.dine_draft.proofs.PlanLemmas.{plan_of_fine}
+use Rattle.dine_draft.proofs.shared.PlanLemmas.{plan_of_fine}
 use Rattle.dine_draft.proofs.drafts.Draft.finish.Goals as goal
 
 pub new-requires : goal.new-requires

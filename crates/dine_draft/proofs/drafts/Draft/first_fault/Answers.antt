@@ -5,7 +5,7 @@ use Rattle.dine_graph.specs.Site.{seen_site}
 use Rattle.dine_draft.specs.Draft.{ends_of_edge, seen_draft}
 use Rattle.dine_draft.specs.Refusals.{end_refusals, first_some}
 use Rattle.dine_draft.specs.declared.drafts.DraftEdge.{DraftEdge}
-use Rattle.dine_draft.proofs.PlanLemmas.{are_ends, first_of_groups, join_known}
+use Rattle.dine_draft.proofs.shared.PlanLemmas.{are_ends, first_of_groups, join_known}
 use Rattle.dine_draft.proofs.drafts.Draft.first_fault.Goals as goal
 
 found : {A : Type 0} (a b : Option A) → is_some a ≡ true → option_or a b ≡ a

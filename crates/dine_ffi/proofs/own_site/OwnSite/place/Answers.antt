@@ -1,7 +1,7 @@
 use Rattle.std.proofs.Common.{◌≡◌, ℕ, ◌<◌, ◌≤◌, List, length, get_or, Option, MatchOption, Result, Ok, Err, sym, ◌∙◌, ap, subst, arith}
 use Rattle.std.specs.Result.{OkIff, result_ok}
 use Rattle.dine_graph.specs.Plan.{SeenPlan, edges_of}
-use Rattle.dine_graph.proofs.PlaceLemmas.{positions_few}
+use Rattle.dine_graph.proofs.shared.PlaceLemmas.{positions_few}
 use Rattle.dine_rules.specs.Local.{edge_at}
 use Rattle.dine_ffi.specs.OwnSites.{IsEdgeOfNone, SeenOwnSite}
 use Rattle.dine_ffi.proofs.own_site.OwnSite.place.Goals as goal

@@ -5,7 +5,7 @@ use Rattle.std.proofs.lemmas.Int.{to_z-of_z}
 use Rattle.std.proofs.lemmas.List.{length-set}
 use Rattle.dine_graph.specs.Plan.{SeenPlan}
 use Rattle.dine_rules.specs.declared.letters.Letter.TheVariants as letter
-use Rattle.dine_rules.proofs.one_site.BreachLaw.{no_breach}
+use Rattle.dine_rules.proofs.shared.one_site.BreachLaw.{no_breach}
 use Rattle.dine_wire.specs.Carried.{IsCarriedOn}
 use Rattle.dine_ffi.specs.OwnSites.{ForkRefuses, SeenOwnSite, SiteTakesFork, StandsFor}
 use Rattle.dine_ffi.specs.Shelves.{AwaitsFork, IsForkBreach, IsNotTakenBack, kept_at}

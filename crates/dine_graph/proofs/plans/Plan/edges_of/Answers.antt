@@ -3,7 +3,7 @@ use Rattle.std.proofs.Common.{◌≡◌, ◌<◌, true, sym, subst, rules}
 use Rattle.std.specs.List.{All}
 use Rattle.std.specs.List.Sorted.{IsStrictlyIncreasing}
 use Rattle.dine_graph.specs.Plan.{is_end, edges_of, edge_count}
-use Rattle.dine_graph.proofs.PlaceLemmas.{positions_ascending, positions_each, positions_within}
+use Rattle.dine_graph.proofs.shared.PlaceLemmas.{positions_ascending, positions_each, positions_within}
 use Rattle.dine_graph.proofs.plans.Plan.edges_of.Goals as goal
 
 pub returns-clause-ascending : goal.returns-clause-ascending

@@ -4,7 +4,7 @@ use Rattle.std.specs.List.{slice_get}
 use Rattle.std.proofs.lemmas.Grind.{common_steps}
 use Rattle.std.proofs.lemmas.Option.{slice_get_within}
 use Rattle.dine_graph.specs.Plan.{edges_of}
-use Rattle.dine_graph.proofs.PlaceLemmas.{positions_ascending, place_unique}
+use Rattle.dine_graph.proofs.shared.PlaceLemmas.{positions_ascending, place_unique}
 use Rattle.dine_graph.proofs.plans.Plan.place.Goals as goal
 
 pub returns-then-lo-site-clause-only : goal.returns-then-lo-site-clause-only

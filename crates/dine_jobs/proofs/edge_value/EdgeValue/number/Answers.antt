@@ -1,8 +1,8 @@
 -- One value more, with the edge whose number comes next.
 use Rattle.std.proofs.Common.{◌≡◌, length, refl, arith, vec_items}
 use Rattle.std.specs.Vec.Iter.{into_iter_items}
-use Rattle.dine_threads.proofs.lists.Zips.{mapped_split}
-use Rattle.dine_threads.proofs.all_sites.Collected.{each_more}
+use Rattle.dine_threads.proofs.shared.lists.Zips.{mapped_split}
+use Rattle.dine_threads.proofs.shared.all_sites.Collected.{each_more}
 use Rattle.dine_jobs.specs.declared.edge_value.EdgeValue.{EdgeValue}
 use Rattle.dine_jobs.proofs.edge_value.EdgeValue.number.Goals as goal
 

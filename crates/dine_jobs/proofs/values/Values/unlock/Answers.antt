@@ -1,7 +1,7 @@
 -- One value more, which has the number of its edge.
 use Rattle.std.proofs.Common.{◌≡◌, length, sym, ◌∙◌, arith, vec_items}
 use Rattle.std.proofs.lemmas.Bool.{eqb-true}
-use Rattle.dine_threads.proofs.all_sites.Collected.{each_more}
+use Rattle.dine_threads.proofs.shared.all_sites.Collected.{each_more}
 use Rattle.dine_jobs.specs.declared.edge_value.EdgeValue.{EdgeValue}
 use Rattle.dine_jobs.proofs.values.Values.unlock.Goals as goal
 

@@ -5,7 +5,7 @@ use Rattle.dine_rules.specs.declared.events.EventKind.TheVariants.{End, Quit, Ta
 use Rattle.dine_rules.specs.Journals.{outcomes_in}
 use Rattle.dine_rules.specs.Shown.{shown_in}
 use Rattle.dine_order.specs.private.Searching.{outcomes_after}
-use Rattle.dine_order.proofs.Shown.{ended-end, ended-other, ended-quit, shown-end, shown-none, shown-other, shown-quit}
+use Rattle.dine_order.proofs.shared.Shown.{ended-end, ended-other, ended-quit, shown-end, shown-none, shown-other, shown-quit}
 use Rattle.dine_order.proofs.orders.outcomes.shown_in.Goals.{in-End, in-Quit, in_default}
 use Rattle.dine_order.proofs.orders.outcomes.shown_in.Goals as goal
 

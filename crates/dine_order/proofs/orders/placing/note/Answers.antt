@@ -3,7 +3,7 @@ use Rattle.dine_rules.specs.Shown.{plan_shown}
 use Rattle.dine_order.specs.private.Searching.{IsSearching}
 use Rattle.dine_order.proofs.Outcomes.{none_from}
 use Rattle.dine_order.proofs.Placing.{few_placed, is_site, place_within, search_with, search_without}
-use Rattle.dine_order.proofs.Shown.{receiver_shown}
+use Rattle.dine_order.proofs.shared.Shown.{receiver_shown}
 use Rattle.dine_order.proofs.orders.placing.note.Goals as goal
 
 pub overflow_add-counts : goal.overflow_add-counts

@@ -4,7 +4,7 @@ use Rattle.dine_rules.specs.declared.events.Event.{Event}
 use Rattle.dine_rules.specs.Shown.{plan_shown}
 use Rattle.dine_order.specs.private.Searching.{IsSearching}
 use Rattle.dine_order.proofs.Placing.{fewer_left, starts_as}
-use Rattle.dine_order.proofs.Shown.{sites_shown}
+use Rattle.dine_order.proofs.shared.Shown.{sites_shown}
 use Rattle.dine_order.proofs.orders.placing.place_all.Goals as goal
 
 pub loop-event-init : goal.loop-event-init

@@ -1,6 +1,6 @@
-use Rattle.dine_rules.proofs.links.Across.{across}
-use Rattle.dine_rules.proofs.one_place.Placed.{placed}
-use Rattle.dine_rules.proofs.two_ends.TwoEnds.{ends_at, ends_of_edge, edge_of_low}
+use Rattle.dine_rules.proofs.shared.links.Across.{across}
+use Rattle.dine_rules.proofs.shared.one_place.Placed.{placed}
+use Rattle.dine_rules.proofs.shared.two_ends.TwoEnds.{ends_at, ends_of_edge, edge_of_low}
 use Rattle.dine_rules.proofs.laws.joined.edges_have_a_place_at_each_end.Goals as goal
 
 pub returns : goal.returns

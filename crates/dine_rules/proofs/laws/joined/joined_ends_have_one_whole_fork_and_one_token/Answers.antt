@@ -1,4 +1,4 @@
-use Rattle.dine_rules.proofs.two_ends.JoinedEnds.{joined_whole, joined_token}
+use Rattle.dine_rules.proofs.shared.two_ends.JoinedEnds.{joined_whole, joined_token}
 use Rattle.dine_rules.proofs.laws.joined.joined_ends_have_one_whole_fork_and_one_token.Goals as goal
 
 pub returns : goal.returns

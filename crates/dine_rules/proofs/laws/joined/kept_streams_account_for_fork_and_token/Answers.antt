@@ -1,4 +1,4 @@
-use Rattle.dine_rules.proofs.two_ends.JoinedEnds.{accounts_for_fork, accounts_for_token}
+use Rattle.dine_rules.proofs.shared.two_ends.JoinedEnds.{accounts_for_fork, accounts_for_token}
 use Rattle.dine_rules.proofs.laws.joined.kept_streams_account_for_fork_and_token.Goals as goal
 
 pub returns : goal.returns

@@ -1,4 +1,4 @@
-use Rattle.dine_rules.proofs.two_ends.JoinedEnds.{linked_fork, linked_token}
+use Rattle.dine_rules.proofs.shared.two_ends.JoinedEnds.{linked_fork, linked_token}
 use Rattle.dine_rules.proofs.laws.joined.linked_ends_have_at_most_one_fork_and_token.Goals as goal
 
 pub returns : goal.returns

@@ -1,6 +1,6 @@
 use Rattle.std.proofs.Common.{refl}
-use Rattle.dine_rules.proofs.two_ends.TwoEnds.{world_linked, world_taken}
-use Rattle.dine_rules.proofs.links.WorldStreams.{reached_kept}
+use Rattle.dine_rules.proofs.shared.two_ends.TwoEnds.{world_linked, world_taken}
+use Rattle.dine_rules.proofs.shared.links.WorldStreams.{reached_kept}
 use Rattle.dine_rules.proofs.laws.joined.reached_worlds_have_linked_ends.Goals as goal
 
 pub returns : goal.returns

@@ -1,5 +1,5 @@
-use Rattle.dine_rules.proofs.links.WorldStreams.{reached_kept}
-use Rattle.dine_rules.proofs.two_ends.ValuesByLogs.{world_tells}
+use Rattle.dine_rules.proofs.shared.links.WorldStreams.{reached_kept}
+use Rattle.dine_rules.proofs.shared.two_ends.ValuesByLogs.{world_tells}
 use Rattle.dine_rules.proofs.laws.joined.reached_worlds_have_the_values_of_their_logs.Goals as goal
 
 pub returns : goal.returns

@@ -1,4 +1,4 @@
-use Rattle.dine_rules.proofs.two_ends.TwoEnds.{refused_at, breach_at}
+use Rattle.dine_rules.proofs.shared.two_ends.TwoEnds.{refused_at, breach_at}
 use Rattle.dine_rules.proofs.laws.joined.refused_letters_are_closes.Goals as goal
 
 pub returns : goal.returns

@@ -1,4 +1,4 @@
-use Rattle.dine_rules.proofs.two_ends.ValuesByLogs.{forks_linked, high_tells, low_tells, whole_adds_up}
+use Rattle.dine_rules.proofs.shared.two_ends.ValuesByLogs.{forks_linked, high_tells, low_tells, whole_adds_up}
 use Rattle.dine_rules.proofs.laws.joined.values_are_those_of_the_logs.Goals as goal
 
 pub returns : goal.returns

@@ -1,5 +1,5 @@
 use Rattle.std.proofs.Common.{refl}
-use Rattle.dine_rules.proofs.journals.OtherOutcomes.{acts-same, fails-are, job_names-same, jobs-same, journal-stays, names-same, own-outcomes, plan-stays, resigns-same, sites-same, states-stay, turns-same}
+use Rattle.dine_rules.proofs.shared.journals.OtherOutcomes.{acts-same, fails-are, job_names-same, jobs-same, journal-stays, names-same, own-outcomes, plan-stays, resigns-same, sites-same, states-stay, turns-same}
 use Rattle.dine_rules.proofs.laws.journals.journals_stand_for_other_outcomes.Goals as goal
 
 pub returns : goal.returns

@@ -1,5 +1,5 @@
 use Rattle.dine_rules.proofs.journals.EatingApart.{eat_apart}
-use Rattle.dine_rules.proofs.timed.OrdersShown.{apart_shown}
+use Rattle.dine_rules.proofs.shared.timed.OrdersShown.{apart_shown}
 use Rattle.dine_rules.proofs.laws.journals.neighbours_eat_apart_in_each_order.Goals as goal
 
 pub returns : goal.returns

@@ -1,9 +1,9 @@
 use Rattle.std.proofs.Common.{append-nil, refl, ◌∙◌}
 use Rattle.dine_rules.specs.Journals.{part_of}
 use Rattle.dine_rules.specs.World.{start}
-use Rattle.dine_rules.proofs.counting.Listed.{place_of_step}
+use Rattle.dine_rules.proofs.shared.counting.Listed.{place_of_step}
 use Rattle.dine_rules.proofs.journals.Parts.{part-then_other, part-then_same}
-use Rattle.dine_rules.proofs.links.WorldStreams.{event_is_step, events_then, reached_kept}
+use Rattle.dine_rules.proofs.shared.links.WorldStreams.{event_is_step, events_then, reached_kept}
 use Rattle.dine_rules.proofs.laws.journals.orders_grow_by_each_event.Goals as goal
 
 pub returns : goal.returns

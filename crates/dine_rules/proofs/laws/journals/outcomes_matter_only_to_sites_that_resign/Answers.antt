@@ -1,5 +1,5 @@
 use Rattle.std.proofs.Common.{sym, ◌∙◌}
-use Rattle.dine_rules.proofs.journals.OtherOutcomes.{order-same, worlds-same}
+use Rattle.dine_rules.proofs.shared.journals.OtherOutcomes.{order-same, worlds-same}
 use Rattle.dine_rules.proofs.laws.journals.outcomes_matter_only_to_sites_that_resign.Goals as goal
 
 pub returns : goal.returns

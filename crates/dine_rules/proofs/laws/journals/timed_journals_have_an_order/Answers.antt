@@ -1,5 +1,5 @@
 use Rattle.dine_rules.proofs.timed.Orders.{have_order}
-use Rattle.dine_rules.proofs.timed.OrdersShown.{order_shown}
+use Rattle.dine_rules.proofs.shared.timed.OrdersShown.{order_shown}
 use Rattle.dine_rules.proofs.laws.journals.timed_journals_have_an_order.Goals as goal
 
 pub returns : goal.returns

@@ -1,6 +1,6 @@
 use Rattle.std.proofs.Common.{refl, ◌≡◌, ◌∙◌, sym, ap, suc, ◌-◌, false, set, arith, rules}
 use Rattle.dine_set.specs.Marks.{nth_position}
-use Rattle.dine_set.proofs.NthPosition.{nth_position-zero, nth_position-none, nth_position-None, nth_position-suc, position-Some}
+use Rattle.dine_set.proofs.shared.NthPosition.{nth_position-zero, nth_position-none, nth_position-None, nth_position-suc, position-Some}
 use Rattle.dine_set.proofs.bit_set.BitSet64.nth.Goals as goal
 
 pub returns-then-left-eq0-clause-value : goal.returns-then-left-eq0-clause-value

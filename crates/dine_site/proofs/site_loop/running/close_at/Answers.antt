@@ -4,7 +4,7 @@ use Rattle.std.proofs.lemmas.Option.{slice_get-map, slice_get_read}
 use Rattle.dine_site.specs.Ports.{SeenPort, seen_port}
 use Rattle.dine_site.specs.private.PortSteps.{SendsClose}
 use Rattle.dine_site.proofs.lists.Replaced.{changed, replaced}
-use Rattle.dine_site.proofs.lists.Seen.{of_there}
+use Rattle.dine_site.proofs.shared.lists.Seen.{of_there}
 use Rattle.dine_site.proofs.site_loop.running.close_at.Goals as goal
 
 pub returns-clause-closed : goal.returns-clause-closed

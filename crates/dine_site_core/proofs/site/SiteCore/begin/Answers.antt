@@ -10,8 +10,8 @@ use Rattle.dine_site_core.specs.Core.{SeenCore}
 use Rattle.dine_rules.specs.Steps.{Begin}
 use Rattle.dine_site_core.specs.Places.{can_begin, next_act, forks_of, place_in_meal, after_begin, IsMealOf, IsSound}
 use Rattle.dine_site_core.proofs.one_site.CoreSteps.{stepped}
-use Rattle.dine_site_core.proofs.one_site.SiteTests.{may_begin}
-use Rattle.dine_site_core.proofs.one_site.Eating.{all_may_eat, forks_are_all, fork_at_place, is_meal, sound_begun, stands_begun, in_hand_begun}
+use Rattle.dine_site_core.proofs.shared.one_site.SiteTests.{may_begin}
+use Rattle.dine_site_core.proofs.shared.one_site.Eating.{all_may_eat, forks_are_all, fork_at_place, is_meal, sound_begun, stands_begun, in_hand_begun}
 use Rattle.dine_site_core.proofs.site.SiteCore.begin.Goals as goal
 
 pub returns-clause-core : goal.returns-clause-core

@@ -8,8 +8,8 @@ use Rattle.dine_site_core.specs.declared.site.places.Place.{Place}
 use Rattle.dine_site_core.specs.private.SiteFields.{seen_core}
 use Rattle.dine_site_core.proofs.one_site.Sound.{kept_with, sound_closed}
 use Rattle.dine_site_core.proofs.one_site.CoreSteps.{puts, stepped}
-use Rattle.dine_site_core.proofs.one_site.SiteTests.{may_close}
-use Rattle.dine_site_core.proofs.one_site.Stands.{stands-after_close}
+use Rattle.dine_site_core.proofs.shared.one_site.SiteTests.{may_close}
+use Rattle.dine_site_core.proofs.shared.one_site.Stands.{stands-after_close}
 use Rattle.dine_site_core.proofs.site.SiteCore.close.Goals as goal
 
 pub invariant_of-self : goal.invariant_of-self

@@ -1,5 +1,5 @@
 use Rattle.std.proofs.Common.{◌∙◌, rules}
-use Rattle.dine_site_core.proofs.own_events.WantsByLists.{dirty_by_lists}
+use Rattle.dine_site_core.proofs.shared.own_events.WantsByLists.{dirty_by_lists}
 use Rattle.dine_site_core.proofs.site.SiteCore.dirty_places.Goals as goal
 
 pub returns-clause-marks : goal.returns-clause-marks

@@ -9,8 +9,8 @@ use Rattle.dine_site_core.specs.Places.{places_with_forks, drops_jobs, after_end
 use Rattle.dine_rules.specs.declared.phase.Phase.TheVariants.{Thinking}
 use Rattle.dine_site_core.proofs.one_site.CoreSteps.{stepped}
 use Rattle.dine_site_core.proofs.own_events.Marked.{length-places_with_forks}
-use Rattle.dine_site_core.proofs.one_site.SiteTests.{may_end}
-use Rattle.dine_site_core.proofs.one_site.Ending.{sound_ended, stands_ended}
+use Rattle.dine_site_core.proofs.shared.one_site.SiteTests.{may_end}
+use Rattle.dine_site_core.proofs.shared.one_site.Ending.{sound_ended, stands_ended}
 use Rattle.dine_site_core.proofs.site.SiteCore.end.Goals as goal
 
 pub returns-clause-core : goal.returns-clause-core

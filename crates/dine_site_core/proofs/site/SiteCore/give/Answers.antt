@@ -11,8 +11,8 @@ use Rattle.dine_site_core.specs.declared.site.places.ForkSlot.TheVariants.{Away}
 use Rattle.dine_site_core.proofs.one_site.Sound.{kept_with, sound_away}
 use Rattle.dine_rules.specs.Steps.{Give}
 use Rattle.dine_site_core.proofs.one_site.CoreSteps.{puts, stepped}
-use Rattle.dine_site_core.proofs.one_site.SiteTests.{may_give}
-use Rattle.dine_site_core.proofs.one_site.Stands.{stands-after_give, fork_held}
+use Rattle.dine_site_core.proofs.shared.one_site.SiteTests.{may_give}
+use Rattle.dine_site_core.proofs.shared.one_site.Stands.{stands-after_give, fork_held}
 use Rattle.dine_site_core.proofs.site.SiteCore.give.Goals as goal
 
 pub returns-clause-core : goal.returns-clause-core

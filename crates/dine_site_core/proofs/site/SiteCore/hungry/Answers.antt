@@ -3,8 +3,8 @@ use Rattle.std.proofs.lemmas.Bool.{and_parts}
 use Rattle.dine_rules.specs.Steps.{Hungry}
 use Rattle.dine_site_core.specs.Places.{after_hungry}
 use Rattle.dine_site_core.proofs.one_site.CoreSteps.{stepped}
-use Rattle.dine_site_core.proofs.one_site.SiteTests.{may_hunger}
-use Rattle.dine_site_core.proofs.one_site.Stands.{stands-after_hungry}
+use Rattle.dine_site_core.proofs.shared.one_site.SiteTests.{may_hunger}
+use Rattle.dine_site_core.proofs.shared.one_site.Stands.{stands-after_hungry}
 use Rattle.dine_site_core.proofs.site.SiteCore.hungry.Goals as goal
 
 pub returns-clause-hungry : goal.returns-clause-hungry

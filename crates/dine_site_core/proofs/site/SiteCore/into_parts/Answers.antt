@@ -1,7 +1,7 @@
 use Rattle.std.proofs.Common.{◌≡◌, false, sym, ◌∙◌, ap, arith}
 use Rattle.std.proofs.lemmas.Grind.{common_steps}
 use Rattle.dine_rules.specs.Local.{is_eating}
-use Rattle.dine_site_core.proofs.lists.Ranges.{forks_by_lists, tokens_by_lists}
+use Rattle.dine_site_core.proofs.shared.lists.Ranges.{forks_by_lists, tokens_by_lists}
 use Rattle.dine_site_core.proofs.site.SiteCore.into_parts.Goals as goal
 
 pub returns-clause-forks : goal.returns-clause-forks

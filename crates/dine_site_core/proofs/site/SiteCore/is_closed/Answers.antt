@@ -1,5 +1,5 @@
 use Rattle.std.proofs.Common.{◌∙◌, rules}
-use Rattle.dine_site_core.proofs.lists.Ranges.{closed_by}
+use Rattle.dine_site_core.proofs.shared.lists.Ranges.{closed_by}
 use Rattle.dine_site_core.proofs.site.SiteCore.is_closed.Goals as goal
 
 pub returns-clause-closed : goal.returns-clause-closed

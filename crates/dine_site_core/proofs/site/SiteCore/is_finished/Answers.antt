@@ -1,5 +1,5 @@
 use Rattle.std.proofs.Common.{◌∙◌, rules}
-use Rattle.dine_site_core.proofs.lists.Ranges.{finished_by}
+use Rattle.dine_site_core.proofs.shared.lists.Ranges.{finished_by}
 use Rattle.dine_site_core.proofs.site.SiteCore.is_finished.Goals as goal
 
 pub returns-then-has_nothing_due-clause-finished : goal.returns-then-has_nothing_due-clause-finished

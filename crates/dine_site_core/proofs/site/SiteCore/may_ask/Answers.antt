@@ -1,6 +1,6 @@
 use Rattle.std.proofs.Common.{◌∙◌, arith}
 use Rattle.std.proofs.lemmas.Grind.{common_steps}
-use Rattle.dine_site_core.proofs.one_site.SiteTests.{ask_may}
+use Rattle.dine_site_core.proofs.shared.one_site.SiteTests.{ask_may}
 use Rattle.dine_site_core.proofs.site.SiteCore.may_ask.Goals as goal
 
 pub returns-then-eq-clause-needs : goal.returns-then-eq-clause-needs

@@ -1,5 +1,5 @@
 use Rattle.std.proofs.Common.{◌∙◌, rules}
-use Rattle.dine_site_core.proofs.one_site.SiteTests.{done_may}
+use Rattle.dine_site_core.proofs.shared.one_site.SiteTests.{done_may}
 use Rattle.dine_site_core.proofs.site.SiteCore.may_done.Goals as goal
 
 pub returns-then-not-place-clause-needs : goal.returns-then-not-place-clause-needs

@@ -1,6 +1,6 @@
 use Rattle.std.proofs.Common.{◌∙◌, arith}
 use Rattle.std.proofs.lemmas.Grind.{common_steps}
-use Rattle.dine_site_core.proofs.one_site.SiteTests.{give_may}
+use Rattle.dine_site_core.proofs.shared.one_site.SiteTests.{give_may}
 use Rattle.dine_site_core.proofs.site.SiteCore.may_give.Goals as goal
 
 pub returns-then-ne-clause-needs : goal.returns-then-ne-clause-needs

@@ -1,5 +1,5 @@
 use Rattle.std.proofs.Common.{◌∙◌, rules}
-use Rattle.dine_site_core.proofs.own_events.WantsByLists.{put_off_by_lists}
+use Rattle.dine_site_core.proofs.shared.own_events.WantsByLists.{put_off_by_lists}
 use Rattle.dine_site_core.proofs.site.SiteCore.may_put_off.Goals as goal
 
 pub returns-clause-test : goal.returns-clause-test

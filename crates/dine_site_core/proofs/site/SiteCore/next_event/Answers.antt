@@ -1,5 +1,5 @@
 use Rattle.std.proofs.Common.{Some, None, refl, ◌∙◌}
-use Rattle.dine_site_core.proofs.own_events.NextEvents.{next_by_lists, next_from}
+use Rattle.dine_site_core.proofs.shared.own_events.NextEvents.{next_by_lists, next_from}
 use Rattle.dine_site_core.proofs.site.SiteCore.next_event.Goals as goal
 
 pub returns-in-Some-clause-next : goal.returns-in-Some-clause-next

@@ -1,5 +1,5 @@
 use Rattle.std.proofs.Common.{arith}
-use Rattle.dine_site_core.proofs.one_site.Opened.{places_few, refines_start, sound_start}
+use Rattle.dine_site_core.proofs.shared.one_site.Opened.{places_few, refines_start, sound_start}
 use Rattle.dine_site_core.proofs.site.SiteCore.open.Goals as goal
 
 pub invariant_of-result : goal.invariant_of-result

@@ -2,8 +2,8 @@ use Rattle.std.proofs.Common.{refl, ap}
 use Rattle.dine_rules.specs.Steps.{Quit}
 use Rattle.dine_site_core.specs.Places.{after_quit}
 use Rattle.dine_site_core.proofs.one_site.CoreSteps.{stepped}
-use Rattle.dine_site_core.proofs.one_site.SiteTests.{may_quit}
-use Rattle.dine_site_core.proofs.one_site.Stands.{stands-after_quit}
+use Rattle.dine_site_core.proofs.shared.one_site.SiteTests.{may_quit}
+use Rattle.dine_site_core.proofs.shared.one_site.Stands.{stands-after_quit}
 use Rattle.dine_site_core.proofs.site.SiteCore.quit.Goals as goal
 
 pub returns-clause-quit : goal.returns-clause-quit

@@ -3,7 +3,7 @@ use Rattle.std.proofs.lemmas.Grind.{common_steps}
 use Rattle.dine_site_core.specs.declared.site.places.Place.{Place}
 use Rattle.dine_site_core.specs.Core.{SeenCore}
 use Rattle.dine_site_core.specs.Places.{place_at, breach_at}
-use Rattle.dine_site_core.proofs.one_site.Breaches.{breach_is}
+use Rattle.dine_site_core.proofs.shared.one_site.Breaches.{breach_is}
 use Rattle.dine_site_core.proofs.site.SiteCore.take.Goals as goal
 
 pub returns-in-Some-clause-breach : goal.returns-in-Some-clause-breach

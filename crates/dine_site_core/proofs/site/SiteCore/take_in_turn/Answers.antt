@@ -7,7 +7,7 @@ use Rattle.dine_site_core.specs.Places.{place_at, no_place, breach_at, place_aft
 use Rattle.dine_site_core.specs.declared.site.places.Place.{Place}
 use Rattle.dine_site_core.proofs.one_site.Sound.{kept_with, sound_noted}
 use Rattle.dine_site_core.proofs.one_site.CoreSteps.{stepped}
-use Rattle.dine_site_core.proofs.one_site.Breaches.{breach_is, may_take, stands-after_take}
+use Rattle.dine_site_core.proofs.shared.one_site.Breaches.{breach_is, may_take, stands-after_take}
 use Rattle.dine_site_core.proofs.site.SiteCore.take_in_turn.Goals as goal
 
 pub invariant_of-self : goal.invariant_of-self

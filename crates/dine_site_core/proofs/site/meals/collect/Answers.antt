@@ -3,7 +3,7 @@ use Rattle.std.proofs.lemmas.List.{length-take-le}
 use Rattle.dine_token.specs.Fork.{SeenFork}
 use Rattle.dine_site_core.specs.declared.site.places.Place.{Place}
 use Rattle.dine_site_core.specs.Places.{fork_in_hand, forks_of, tokens_of}
-use Rattle.dine_site_core.proofs.lists.Lists.{forks_of-few, tokens_of-few, forks_of-more, tokens_of-more, same_at, same_behind}
+use Rattle.dine_site_core.proofs.shared.lists.Lists.{forks_of-few, tokens_of-few, forks_of-more, tokens_of-more, same_at, same_behind}
 use Rattle.dine_site_core.proofs.site.meals.collect.Goals as goal
 
 pub empty-requires-clause-room_for_forks : goal.empty-requires-clause-room_for_forks

@@ -5,7 +5,7 @@ use Rattle.dine_token.specs.Fork.{SeenFork}
 use Rattle.dine_site_core.specs.declared.site.places.Place.{Place}
 use Rattle.dine_site_core.specs.Places.{place_in_meal, forks_of, OnHere}
 use Rattle.dine_site_core.specs.private.PlaceSteps.{IsLiftable}
-use Rattle.dine_site_core.proofs.lists.Lists.{get_or-map_over, forks_of-few, forks_of-more, fork_is}
+use Rattle.dine_site_core.proofs.shared.lists.Lists.{get_or-map_over, forks_of-few, forks_of-more, fork_is}
 use Rattle.dine_site_core.proofs.site.meals.lift.Goals as goal
 
 pub push_reserved-requires : goal.push_reserved-requires

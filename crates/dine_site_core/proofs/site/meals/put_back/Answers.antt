@@ -2,7 +2,7 @@ use Rattle.std.proofs.Common.{◌≡◌, ◌∙◌, ℕ, length, set, get_or, ap
 use Rattle.dine_site_core.specs.declared.site.places.Place.{Place}
 use Rattle.dine_site_core.specs.declared.site.places.ForkSlot.TheVariants.{Here}
 use Rattle.dine_site_core.specs.Places.{with_fork}
-use Rattle.dine_site_core.proofs.lists.Lists.{laid_step}
+use Rattle.dine_site_core.proofs.shared.lists.Lists.{laid_step}
 use Rattle.dine_site_core.proofs.site.meals.put_back.Goals as goal
 
 pub loop-hands-preserved : goal.loop-hands-preserved

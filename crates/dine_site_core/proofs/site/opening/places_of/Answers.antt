@@ -4,7 +4,7 @@ use Rattle.dine_rules.specs.declared.phase.Phase.TheVariants.{Thinking}
 use Rattle.dine_rules.specs.Local.{no_traffic}
 use Rattle.dine_site_core.specs.declared.site.places.Place.{Place}
 use Rattle.dine_site_core.specs.Core.{fresh_forks, fresh_tokens, kept_of}
-use Rattle.dine_site_core.proofs.one_site.Degrees.{degree_few}
+use Rattle.dine_site_core.proofs.shared.one_site.Degrees.{degree_few}
 use Rattle.dine_site_core.proofs.site.opening.places_of.Goals as goal
 
 pub push-requires : goal.push-requires

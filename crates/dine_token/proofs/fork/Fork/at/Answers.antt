@@ -3,7 +3,7 @@ use Rattle.std.proofs.Common.{sym, ◌∙◌, ap, subst, ℕ, rules}
 use Rattle.dine_token.specs.declared.fork.Contents.{Contents}
 use Rattle.dine_token.specs.Fork.{SeenFork, IsEnd}
 use Rattle.dine_token.specs.private.Fields.{seen_fork}
-use Rattle.dine_token.proofs.Forks.{IsEnd-location}
+use Rattle.dine_token.proofs.shared.Forks.{IsEnd-location}
 use Rattle.dine_token.proofs.fork.Fork.at.Goals as goal
 
 pub returns-clause-end : goal.returns-clause-end

@@ -10,7 +10,7 @@ use Rattle.dine_token.specs.Fork.{MayEat, after_meal}
 use Rattle.dine_token.specs.Values.{value_after_act}
 use Rattle.dine_token.specs.private.Fields.{seen_contents, MatchesLog}
 use Rattle.dine_token.proofs.Periods.{length-periods_of}
-use Rattle.dine_token.proofs.Forks.{periods_small}
+use Rattle.dine_token.proofs.shared.Forks.{periods_small}
 use Rattle.dine_token.proofs.Contents.{eaten_matches, items_eaten}
 use Rattle.dine_token.proofs.fork.Fork.eat.Goals as goal
 use Rattle.dine_token.proofs.fork.Fork.eat.Goals.{then-site-contents, else-site-contents}

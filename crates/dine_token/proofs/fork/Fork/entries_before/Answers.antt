@@ -3,7 +3,7 @@ use Rattle.std.proofs.lemmas.Option.{get_or_from_slice_get}
 use Rattle.dine_token.specs.declared.log_period.Period.{Period}
 use Rattle.dine_token.specs.Periods.{periods_of, entries_of}
 use Rattle.dine_token.proofs.LawfulPeriods.{IsPlaced, placed-at}
-use Rattle.dine_token.proofs.Forks.{length-periods, placed_fork}
+use Rattle.dine_token.proofs.shared.Forks.{length-periods, placed_fork}
 use Rattle.dine_token.proofs.fork.Fork.entries_before.Goals as goal
 
 before : (ps : List Period) → IsPlaced ps → (place j : ℕ) (former p : Period) → place ≡ j + 1 → place < length ps → slice_get ps j ≡ Some former → slice_get ps place ≡ Some p

@@ -3,7 +3,7 @@ use Rattle.dine_token.specs.declared.log_entry.Entry.{Entry}
 use Rattle.dine_token.specs.declared.log_entry.Entry.TheVariants.{Meal}
 use Rattle.dine_token.specs.declared.log_period.Period.{Period}
 use Rattle.dine_token.specs.Periods.{periods_of, entries_of}
-use Rattle.dine_token.proofs.Forks.{length-fork, fork_has_periods}
+use Rattle.dine_token.proofs.shared.Forks.{length-fork, fork_has_periods}
 use Rattle.dine_token.proofs.Places.{size_first, size_more, entry_first, entry_move, entry_meal}
 use Rattle.dine_token.proofs.fork.Fork.entry.Goals as goal
 

@@ -4,8 +4,8 @@ use Rattle.dine_token.specs.declared.fork.Contents.{Contents}
 use Rattle.dine_token.specs.Fork.{SeenFork}
 use Rattle.dine_token.specs.Log.{moves_of}
 use Rattle.dine_token.specs.private.Fields.{seen_fork}
-use Rattle.dine_token.proofs.Bounds.{counted_lawful}
-use Rattle.dine_token.proofs.Forks.{length-fork}
+use Rattle.dine_token.proofs.shared.Bounds.{counted_lawful}
+use Rattle.dine_token.proofs.shared.Forks.{length-fork}
 use Rattle.dine_token.proofs.fork.Fork.len.Goals as goal
 
 pub overflow_add-result-2 : goal.overflow_add-result-2

@@ -5,7 +5,7 @@ use Rattle.dine_token.specs.Periods.{entries_of}
 use Rattle.dine_token.specs.Fork.{SeenFork, IsFork, MayMove, after_move}
 use Rattle.dine_token.specs.private.Fields.{seen_contents, MatchesLog}
 use Rattle.dine_token.proofs.Periods.{period}
-use Rattle.dine_token.proofs.Forks.{room_to_move, due_small}
+use Rattle.dine_token.proofs.shared.Forks.{room_to_move, due_small}
 use Rattle.dine_token.proofs.Contents.{moved_matches, log_moved}
 use Rattle.dine_token.proofs.fork.Fork.move_to.Goals as goal
 

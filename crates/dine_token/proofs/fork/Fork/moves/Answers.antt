@@ -4,7 +4,7 @@ use Rattle.dine_token.specs.Fork.{SeenFork}
 use Rattle.dine_token.specs.Log.{moves_of}
 use Rattle.dine_token.specs.private.Fields.{seen_fork}
 use Rattle.dine_token.proofs.Periods.{length-periods_of}
-use Rattle.dine_token.proofs.Forks.{moves-fork}
+use Rattle.dine_token.proofs.shared.Forks.{moves-fork}
 use Rattle.dine_token.proofs.fork.Fork.moves.Goals as goal
 
 pub overflow_cast-result : goal.overflow_cast-result

@@ -8,7 +8,7 @@ use Rattle.dine_token.specs.declared.log_period.Period.{Period}
 use Rattle.dine_token.specs.Fork.{SeenFork}
 use Rattle.dine_token.specs.Periods.{periods_of}
 use Rattle.dine_token.specs.private.Fields.{seen_fork}
-use Rattle.dine_token.proofs.Forks.{periods_small}
+use Rattle.dine_token.proofs.shared.Forks.{periods_small}
 use Rattle.dine_token.proofs.Places.{used_between}
 use Rattle.dine_token.proofs.fork.Fork.period.Goals as goal
 

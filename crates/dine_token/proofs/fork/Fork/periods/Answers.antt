@@ -3,7 +3,7 @@ use Rattle.std.proofs.Common.{ap, arith, length, rules}
 use Rattle.dine_token.specs.declared.fork.Contents.{Contents}
 use Rattle.dine_token.specs.private.Fields.{seen_fork}
 use Rattle.dine_token.proofs.Periods.{length-periods_of}
-use Rattle.dine_token.proofs.Forks.{moves-fork}
+use Rattle.dine_token.proofs.shared.Forks.{moves-fork}
 use Rattle.dine_token.proofs.fork.Fork.periods.Goals as goal
 
 pub overflow_cast-result : goal.overflow_cast-result

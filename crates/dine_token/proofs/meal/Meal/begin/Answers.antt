@@ -4,7 +4,7 @@ use Rattle.std.proofs.lemmas.List.Edits.{map_over_more}
 use Rattle.std.proofs.lemmas.List.Elements.{All-map}
 use Rattle.std.specs.List.{All}
 use Rattle.dine_token.specs.Fork.{SeenFork, IsDirty, MayEat, after_meal}
-use Rattle.dine_token.proofs.Logs.{is_dirty-push_meal}
+use Rattle.dine_token.proofs.shared.Logs.{is_dirty-push_meal}
 use Rattle.dine_token.proofs.meal.Meal.begin.Goals as goal
 
 -- behind the forks that have the meal are the others as they were

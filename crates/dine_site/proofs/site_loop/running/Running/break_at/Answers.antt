@@ -5,7 +5,7 @@ use Rattle.dine_rules.specs.declared.letters.Letter.TheVariants as letter
 use Rattle.std.proofs.lemmas.List.{length-map}
 use Rattle.dine_site.specs.Ports.{SeenPort, seen_port}
 use Rattle.dine_site.specs.private.Running.{SeenRun, ClosedBelow, IsStopped, seen_run}
-use Rattle.dine_site.proofs.lists.Seen.{there_is, if_there, of_there}
+use Rattle.dine_site.proofs.shared.lists.Seen.{there_is, if_there, of_there}
 use Rattle.dine_rules.specs.Local.{is_eating}
 use Rattle.dine_rules.specs.Steps.{Break}
 use Rattle.dine_site_core.specs.Core.{SeenCore}

@@ -12,8 +12,8 @@ use Rattle.dine_site.specs.declared.site_end.SiteFault.TheVariants as fault
 use Rattle.dine_site.specs.Ports.{SeenPort, seen_ports}
 use Rattle.dine_site.specs.private.PortSteps.{port_after_close, port_after_unheard_close, port_after_refusal}
 use Rattle.dine_site.specs.private.Running.{SeenRun, IsRunning, IsStopped, seen_run}
-use Rattle.dine_site.proofs.lists.Seen.{there_is, if_there, of_there}
-use Rattle.dine_site.proofs.one_site.Letters.{stops-closed_unheard}
+use Rattle.dine_site.proofs.shared.lists.Seen.{there_is, if_there, of_there}
+use Rattle.dine_site.proofs.shared.one_site.Letters.{stops-closed_unheard}
 use Rattle.dine_site.proofs.one_site.Stops.{close_stops, unheard_stops}
 use Rattle.dine_site.specs.declared.site_loop.running.Stop.{Stop}
 use Rattle.dine_rules.specs.Local.{traffic_at}

@@ -14,7 +14,7 @@ use Rattle.dine_token.specs.Log.{meals_of}
 use Rattle.dine_site_core.specs.Core.{SeenCore}
 use Rattle.dine_site_core.specs.Places.{FitsMeal, after_begin, drops_jobs, after_end}
 use Rattle.dine_site.proofs.one_site.WholeMeals.{whole_meal}
-use Rattle.dine_site.proofs.one_site.Obeying.{obeys_meal, hungry_goes_on}
+use Rattle.dine_site.proofs.shared.one_site.Obeying.{obeys_meal, hungry_goes_on}
 use Rattle.dine_site.proofs.one_site.Meals.{eaten_more, failed_by}
 use Rattle.dine_site.proofs.one_site.Ways.{eat_runs}
 use Rattle.dine_site.proofs.one_site.Working.{meal_led, meal_logged, worked_more}

@@ -16,7 +16,7 @@ use Rattle.dine_site.specs.private.Running.{SeenRun, GoesOn, IsObeying, IsNext, 
 use Rattle.dine_site_core.specs.Standing.{CorePuts}
 use Rattle.dine_rules.specs.Steps.{Give, Ask, Hungry, Quit, Done, Close}
 use Rattle.dine_site.proofs.one_site.Checks.{checks_more}
-use Rattle.dine_site.proofs.one_site.AtPlaces.{opens-give, opens-ask, opens-done, opens-close}
+use Rattle.dine_site.proofs.shared.one_site.AtPlaces.{opens-give, opens-ask, opens-done, opens-close}
 use Rattle.dine_site.proofs.one_site.Saying.{checks_said, is_said, proceeds_said, timed_said, works_said}
 use Rattle.dine_site.proofs.one_site.Working.{fork_given, worked_more}
 use Rattle.dine_site.specs.Threads.{Acts}
@@ -31,7 +31,7 @@ use Rattle.dine_site.proofs.one_site.Times.{alone}
 use Rattle.dine_site.proofs.one_site.Same.{same_but_phase}
 use Rattle.dine_site.proofs.one_site.Proceeding.{proceeds_same}
 use Rattle.dine_site.proofs.one_site.Ways.{hungry_runs, quit_runs}
-use Rattle.dine_site.proofs.one_site.Obeying.{obeying_as}
+use Rattle.dine_site.proofs.shared.one_site.Obeying.{obeying_as}
 use Rattle.dine_link.specs.Closing.{is_close}
 use Rattle.dine_site.proofs.site_loop.running.Running.perform.Goals as goal
 

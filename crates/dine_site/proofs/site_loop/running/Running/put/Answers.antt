@@ -11,8 +11,8 @@ use Rattle.dine_site.specs.private.Running.{SeenRun, IsRunning, IsStopped, IsWor
 use Rattle.dine_link.specs.declared.deed.Deed.{Deed}
 use Rattle.dine_rules.specs.Steps.{with_put}
 use Rattle.dine_site.specs.Threads.{HasWorked}
-use Rattle.dine_site.proofs.lists.Seen.{seen_at, seen_set}
-use Rattle.dine_site.proofs.one_site.Letters.{stops-unheard}
+use Rattle.dine_site.proofs.shared.lists.Seen.{seen_at, seen_set}
+use Rattle.dine_site.proofs.shared.one_site.Letters.{stops-unheard}
 use Rattle.dine_site.proofs.one_site.Stops.{put_stops, unheard_stops}
 use Rattle.dine_site.specs.declared.site_loop.running.Stop.{Stop}
 use Rattle.dine_rules.specs.Local.{traffic_at}

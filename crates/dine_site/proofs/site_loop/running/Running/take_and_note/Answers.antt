@@ -18,7 +18,7 @@ use Rattle.dine_rules.specs.declared.events.EventKind.{EventKind}
 use Rattle.dine_rules.specs.Local.{LocalState}
 use Rattle.dine_rules.specs.Steps.{Take, after}
 use Rattle.dine_rules.specs.Letters.{has_close}
-use Rattle.dine_site.proofs.lists.Seen.{seen_at, seen_set}
+use Rattle.dine_site.proofs.shared.lists.Seen.{seen_at, seen_set}
 use Rattle.dine_site_core.specs.Core.{SeenCore}
 use Rattle.dine_site.proofs.one_site.Checks.{checks_more}
 use Rattle.dine_site.proofs.one_site.Stops.{breach_stops, take_stops}

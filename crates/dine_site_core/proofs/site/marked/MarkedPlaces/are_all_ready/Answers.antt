@@ -1,7 +1,7 @@
 use Rattle.std.proofs.Common.{◌≡◌, ◌&&◌, is_none, position, sym, ◌∙◌, ap, ap₂, Bool, List}
 use Rattle.std.specs.List.{list_all}
 use Rattle.dine_set.specs.Marks.{both_marks, marks_of}
-use Rattle.dine_set.proofs.MarksOf.{both-marks_of, position-marks_of}
+use Rattle.dine_set.proofs.shared.MarksOf.{both-marks_of, position-marks_of}
 use Rattle.dine_site_core.specs.declared.site.places.Place.{Place}
 use Rattle.dine_site_core.specs.Places.{is_away_at, is_dirty_at, has_token_at, is_ready_at}
 use Rattle.dine_site_core.proofs.own_events.Marked.{ready_by_sets}

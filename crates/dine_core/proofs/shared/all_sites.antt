@@ -1,0 +1,2 @@
+-- The world: the meals of its sites.
+pub mod OpenedSites

@@ -1,0 +1,2 @@
+-- Journals whose events have moments: their order, if jobs fail as the journals show.
+pub mod OrdersShown

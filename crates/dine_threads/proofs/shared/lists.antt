@@ -1,0 +1,2 @@
+-- Lists that are read side by side.
+pub mod Zips

@@ -1,0 +1,4 @@
+-- The lemmas that other crates cite. No other file of proofs/ may be cited from another crate.
+pub mod LettersOfRuns
+pub mod CarriedForks
+pub mod CarriedGrowth
