@@ -2,25 +2,22 @@
 
 import { momentOf } from "./address.js";
 import { Keys, openMenu } from "./keys.js";
-import { between, setAttribute, textElement } from "./marks.js";
-import { found, page, seed } from "./state.js";
+import { between, setAttribute, setText, textElement } from "./marks.js";
+import { found, rate, seed, session } from "./session.js";
 import { keep, kept, saveFile, tomlOf } from "./moments.js";
 import { lessonAfter } from "./lessons.js";
-import { compareView, queue, timeline, planEditor, player, tell } from "./parts.js";
+import { compareView, lessonPanel, timeline, planEditor } from "./parts.js";
 import { programOf } from "./program.js";
 import {
-  choose, chooseRandom, jump, leaveLesson, openOffered, openPlan, openWritten, pause, quicker, runOnThreads, scrub,
-  showRate, showWait, step, takeOther, takeUp, undo,
+  chooseRandom, jump, leaveLesson, openOffered, openPlan, pause, player, press, queue, runOnThreads, showWait, step,
+  takeUp, tell, undo,
 } from "./steps.js";
 import {
-  beginLesson, firstLesson, keepMoment, lessonOf, lessonSent, offerLessons, openLesson, openMoment, openMoments,
-  openNext, openScheduleOf, removeMoment, showNext, writeMoment,
+  beginLesson, keepMoment, lessonOf, lessonSent, offerLessons, openLesson, openMoment, openMoments, openNext,
+  openScheduleOf, removeMoment, writeMoment,
 } from "./teach.js";
-import {
-  forgetAddress, keyOfState, nameOf, noteAddress, openPicture, select, shellLine, show, showKinds, writeAddress,
-} from "./view.js";
+import { forgetAddress, nameOf, noteAddress, shellLine, watchSize, writeAddress } from "./view.js";
 import { DINE_SITE } from "./site.js";
-import { eventOf } from "./touch.js";
 import { openWords } from "./words.js";
 
 // The plan whose page has a front door.
@@ -78,31 +75,25 @@ const paused = (work) => () => {
 };
 
 const back = () => jump((it) => it.at - 1);
+const next = () => openNext(() => lessonPanel.isHeld());
+const previous = () => openMoment(session.state.moment - 1);
 
 // Shows in a moment of a lesson what may happen, or hides it again.
 function turnOpen() {
-  if (!page.lesson || (found("what-if").hidden && !page.isOpen)) return;
-  page.isOpen = !page.isOpen;
-  show();
+  const { lesson, isOpen } = session.state;
+  if (lesson && (isOpen || !found("what-if").hidden)) session.change({ isOpen: !isOpen });
 }
 
-// Does the event of a thing that was tapped, or says why there is none. Where only one site and its neighbours are
-// shown, a tap on another one shows that.
-function touch(thing) {
-  pause();
-  const { site } = thing;
-  const isElsewhere = site !== undefined && page.focus !== null && site !== page.focus;
-  const { event, words, why } = eventOf(page.schedule.state, thing);
-  if (isElsewhere || (site !== undefined && document.body.classList.contains("asks"))) {
-    select(site === page.selected ? null : site);
-  } else if (event) {
-    if (site !== undefined && !page.lesson) page.selected = site;
-    press(event.number);
-  } else {
-    const isAgain = site !== undefined && site === page.selected;
-    page.touched = isAgain ? null : { words, why, key: keyOfState() };
-    select(site === undefined ? page.selected : isAgain ? null : site);
-  }
+function showRate() {
+  const perSecond = Number(rate().toPrecision(2));
+  setText(found("rate"), `${perSecond}/s`);
+  setAttribute(found("speed"), "aria-valuetext", `${perSecond} events a second`);
+  noteAddress();
+}
+
+function quicker(by) {
+  found("speed").value = Number(found("speed").value) + by;
+  showRate();
 }
 
 const BUTTONS = {
@@ -111,39 +102,39 @@ const BUTTONS = {
   undo,
   step: paused(() => queue.do(step)),
   play: () => player.play(),
-  first: paused(() => choose(0)),
+  first: () => press(0),
   random: paused(chooseRandom),
   threads: runOnThreads,
-  own: paused(() => planEditor.show(page.wanted)),
+  own: paused(() => planEditor.show(session.state.wanted)),
   use: () => planEditor.use(),
-  again: () => planEditor.again(page.schedule?.plan ?? ""),
+  again: () => planEditor.again(session.state.schedule?.plan ?? ""),
   copy: copyLine,
   link: copyLink,
   theme: turnTheme,
   large: turnLarge,
   help: () => found("keys").showModal(),
   glossary: () => openWords(),
-  unselect: () => select(null),
+  unselect: () => session.change({ selected: null }),
   "zoom-in": () => timeline.zoom(2),
   "zoom-out": () => timeline.zoom(0.5),
   "zoom-all": () => timeline.zoomOut(),
-  previous: () => openMoment(page.moment - 1),
-  next: openNext,
-  "next-lesson": () => beginLesson(lessonAfter(page.lessons, page.lesson)),
-  "ways-of-moment": paused(() => compareView.runFor(page.lesson.moments[page.moment].ways)),
+  previous,
+  next,
+  "next-lesson": () => beginLesson(lessonAfter(session.state.lessons, session.state.lesson)),
+  "ways-of-moment": paused(() => compareView.runFor(session.state.lesson.moments[session.state.moment].ways)),
   home: goHome,
   count: () => openWords("bound"),
   "edge-word": () => openWords("edge"),
-  return: () => openMoment(page.moment),
+  return: () => openMoment(session.state.moment),
   leave: leaveLesson,
   "moment-count": openMoments,
   "what-if": turnOpen,
-  begin: () => beginLesson(firstLesson()),
-  free: playFreely,
+  begin: () => beginLesson(session.state.lessons[0] ?? null),
+  free: () => session.change({ isFront: false, isTurned: true, kinds: null }),
   keep: writeMoment,
   "keep-it": keepMoment,
   remove: removeMoment,
-  save: () => saveFile("lesson.toml", tomlOf(page.lesson)),
+  save: () => saveFile("lesson.toml", tomlOf(session.state.lesson)),
 };
 
 // What can be done before there is a plan.
@@ -186,7 +177,7 @@ const KEYS = {
 
 function escape() {
   if (document.body.classList.contains("large")) turnLarge();
-  else if (page.selected !== null) select(null);
+  else if (session.state.selected !== null) session.change({ selected: null });
 }
 
 function turnPick() {
@@ -194,15 +185,10 @@ function turnPick() {
   noteAddress();
 }
 
-// Does the enabled event of this number, as the reader asks for it.
-function press(number) {
-  return paused(() => choose(number))();
-}
-
 // Does what a key does. A figure does the enabled event of its number.
 function doKey(key) {
   const does = /^[0-9]$/.test(key) ? () => press(Number(key)) : KEYS[key];
-  if (!does || !(page.schedule || [BUTTONS.own, BUTTONS.theme, BUTTONS.help].includes(does))) return false;
+  if (!does || !(session.state.schedule || [BUTTONS.own, BUTTONS.theme, BUTTONS.help].includes(does))) return false;
   does();
   return true;
 }
@@ -210,7 +196,7 @@ function doKey(key) {
 function doButton(name) {
   const button = found(name);
   if (button.getAttribute("aria-disabled") === "true") return;
-  if (page.schedule || WITHOUT_PLAN.has(name)) BUTTONS[name]();
+  if (session.state.schedule || WITHOUT_PLAN.has(name)) BUTTONS[name]();
 }
 
 // Goes along the timeline by a tenth, if it has the focus and there is no lesson for these keys.
@@ -239,28 +225,21 @@ function listen() {
   });
   found("find").addEventListener("submit", (event) => {
     event.preventDefault();
-    if (page.schedule) showWait();
+    if (session.state.schedule) showWait();
   });
   for (const where of document.querySelectorAll(".picture, .lesson")) listenToSwipes(where);
   addEventListener("hashchange", () => openAddress());
   found("code-on").addEventListener("change", () => {
     keep("dine-code", found("code-on").checked ? "on" : "off");
-    if (!page.schedule) return;
-    show();
+    session.change();
     // On a small screen the algorithm is far below its switch.
-    if (!found("code").hidden) found("code").scrollIntoView({ block: "nearest" });
+    if (session.state.schedule && !found("code").hidden) found("code").scrollIntoView({ block: "nearest" });
   });
   found("seed").addEventListener("change", () => { found("seed").value = seed(); });
-  for (const name of ["predict", "focus"]) found(name).addEventListener("change", () => page.schedule && show());
-  found("naive").addEventListener("change", () => {
-    page.isPlain = false;
-    showKinds();
-  });
+  for (const name of ["predict", "focus"]) found(name).addEventListener("change", () => session.change());
+  found("naive").addEventListener("change", () => session.change({ isPlain: false }));
   // What a moment shows goes as soon as the reader says what to show.
-  found("ranks").addEventListener("change", () => {
-    page.kinds = null;
-    showKinds();
-  });
+  found("ranks").addEventListener("change", () => session.change({ kinds: null }));
 }
 
 // A finger that goes across the picture or the note turns to the next moment of a lesson, or to the one before.
@@ -270,27 +249,12 @@ function listenToSwipes(where) {
     from = touches.length === 1 ? touches[0] : null;
   }, { passive: true });
   where.addEventListener("touchend", ({ changedTouches: [to] }) => {
-    if (!from || !page.lesson) return;
+    if (!from || !session.state.lesson) return;
     const [right, down] = [to.clientX - from.clientX, to.clientY - from.clientY];
     if (Math.abs(right) < SWIPE || Math.abs(right) < 2 * Math.abs(down)) return;
-    if (right < 0) openNext();
-    else openMoment(page.moment - 1);
+    if (right < 0) next();
+    else previous();
   }, { passive: true });
-}
-
-// Draws the picture anew whenever its place has another size.
-function watchSize() {
-  const rem = parseFloat(getComputedStyle(document.documentElement).fontSize) / 16;
-  const watch = new ResizeObserver(() => {
-    const shown = found(page.isPlain ? "naive-picture" : "picture").parentElement;
-    const { clientWidth: width, clientHeight: height } = shown;
-    if (width === 0 || (Math.abs(width - page.room.width) < 1 && Math.abs(height - page.room.height) < 1)) return;
-    page.room = { width, height, rem };
-    if (!page.schedule) return;
-    openPicture();
-    show();
-  });
-  for (const where of document.querySelectorAll(".canvas")) watch.observe(where);
 }
 
 // What the page can't do without, and from which versions on browsers have it.
@@ -310,30 +274,26 @@ function isLacking() {
 async function begin() {
   found("needs").remove();
   if (isLacking()) return;
-  Object.assign(page.does, { select, show, showNext, scrub, step, takeOther, openWritten, press, touch });
   if (kept("dine-theme")) document.documentElement.dataset.theme = kept("dine-theme");
   found("letters").checked = kept("dine-letters") !== "off";
   found("code-on").checked = kept("dine-code") === "on";
   found("choices").append(textElement("b", ""), textElement("span", ""));
-  page.program = await programOf();
+  const program = await programOf();
+  const { catalog } = program;
+  const plans = new Map(catalog.plans.map(({ path, text }) => [path, text]));
+  const lessons = [...catalog.lessons].sort((one, other) => (one.place ?? 99) - (other.place ?? 99));
+  session.set({ program, plans, lessons });
   showRate();
-  showKinds();
   watchSize();
   listen();
-  const { catalog } = page.program;
-  const lessons = [...catalog.lessons].sort((one, other) => (one.place ?? 99) - (other.place ?? 99));
-  Object.assign(page, { first: catalog.first, made: catalog.lesson, lessons });
-  for (const { path, text } of catalog.plans) page.plans.set(path, text);
   found("unproved").hidden = !catalog.unproved;
-  for (const path of page.plans.keys()) found("plans").add(new Option(nameOf(path), path));
+  for (const path of plans.keys()) found("plans").add(new Option(nameOf(path), path));
   offerLessons();
   await openFirst(catalog);
 }
 
 // The path of the offered plan with this text, or null.
-function pathOf(plan) {
-  return [...page.plans.keys()].find((path) => page.plans.get(path) === plan) ?? null;
-}
+const pathOf = (plan, plans) => [...plans.keys()].find((path) => plans.get(path) === plan) ?? null;
 
 // Shows what the address says, or else the plan or the lesson that the page was made for.
 async function openAddress(address = location.hash) {
@@ -344,36 +304,36 @@ async function openAddress(address = location.hash) {
     if (said.seed !== null) found("seed").value = said.seed;
     if (said.speed !== null) found("speed").value = said.speed;
     showRate();
-    const path = said.plan === null ? said.path ?? page.first : pathOf(said.plan);
-    if (said.plan === null && !page.plans.has(path)) throw new Error(`there is no plan ${path} here`);
+    const { plans, program: { catalog } } = session.state;
+    const path = said.plan === null ? said.path ?? catalog.first : pathOf(said.plan, plans);
+    if (said.plan === null && !plans.has(path)) throw new Error(`there is no plan ${path} here`);
     // An address that names no schedule shows a moment of the lesson that the page was made for.
     const hasSchedule = said.path !== null || said.plan !== null || said.list.length > 0;
-    const named = said.lesson ?? (hasSchedule ? null : page.made);
+    const named = said.lesson ?? (hasSchedule ? null : catalog.lesson);
     const lesson = said.own ? lessonSent(said.own) : named ? lessonOf(named) : null;
     if (named && !said.own && !lesson) throw new Error(`there is no lesson ${named} here`);
     const place = between(0, said.moment, Math.max(0, (lesson?.moments.length ?? 0) - 1));
     if (lesson?.moments.length && said.path === null && said.plan === null) {
       await openScheduleOf(lesson, place);
-      page.best = said.best;
+      session.set({ best: said.best });
     } else {
-      const plan = said.plan ?? page.plans.get(path);
+      const plan = said.plan ?? plans.get(path);
       await openPlan({ ...said, path, plan });
       if (lesson) takeUp(lesson, place);
       else leaveLesson();
-      page.best = said.best;
+      session.set({ best: said.best });
       if (/^#?$/.test(address) && path === FIRST) openFront();
     }
   });
   // What an address shows is where the browser is already.
-  page.isTurned = false;
+  session.set({ isTurned: false });
 }
 
 // The front door: the picture with its forks, what the trouble is, and where to begin.
 function openFront() {
-  Object.assign(page, { isFront: true, kinds: ["forks"] });
   // The article is beside docs/index.html, and beside no other copy of the page.
-  found("to-article").hidden = page.program.isServed || !/(\/|index\.html)$/.test(location.pathname);
-  showKinds();
+  found("to-article").hidden = session.state.program.isServed || !/(\/|index\.html)$/.test(location.pathname);
+  session.change({ isFront: true, kinds: ["forks"] });
 }
 
 // Back to what the page began with.
@@ -381,22 +341,18 @@ async function goHome() {
   pause();
   await openAddress("");
   // At once, so that the way back of the browser leads from here also to who takes it within the next moment.
-  page.isTurned = true;
+  session.set({ isTurned: true });
   await writeAddress();
   scrollTo(0, 0);
 }
 
-function playFreely() {
-  Object.assign(page, { isFront: false, isTurned: true, kinds: null });
-  showKinds();
-}
-
 // Opens the lesson or the plan that the page begins with.
-async function openFirst({ begin }) {
+async function openFirst({ begin, first }) {
   await openAddress(location.hash.length < 2 ? begin ?? "" : location.hash);
   // An address that shows nothing leaves the plan to be seen that the page was made for, and its fault.
-  const plan = page.plans.get(page.first);
-  if (!page.schedule && page.wanted !== plan) await openPlan({ path: page.first, plan });
+  const { plans, schedule, wanted } = session.state;
+  const plan = plans.get(first);
+  if (!schedule && wanted !== plan) await openPlan({ path: first, plan });
 }
 
 begin().catch((fault) => tell(fault.message));

@@ -1,39 +1,21 @@
-// The parts of the page, each with its elements.
+// The parts of the page, each with its elements and with what it does when it is used.
 
-import { Queue, Player } from "./queue.js";
 import { Timeline } from "./timeline.js";
 import { CompareView } from "./compare_view.js";
 import { EnabledList } from "./enabled.js";
 import { LessonPanel } from "./lessons.js";
 import { setText } from "./marks.js";
-import { found, page, rate } from "./state.js";
+import { found, session } from "./session.js";
 import { PlanEditor } from "./plan_editor.js";
 import { Picture } from "./picture.js";
 import { Quiz } from "./quiz.js";
-import { faultText } from "./refusals.js";
+import { openWritten, press, queue, scrub, takeOther, touch } from "./steps.js";
 import { EdgeTable, SiteTable } from "./tables.js";
+import { showNext } from "./teach.js";
 import { CodeView } from "./code_view.js";
 import { Why } from "./why.js";
 
-// Shows a line about what went wrong, or none.
-export function tell(line) {
-  setText(found("fault"), line);
-  found("fault").hidden = line === "";
-}
-
-const turnSite = (site) => page.does.select(site === page.selected ? null : site);
-const pressEvent = (number) => page.does.press(number);
-
-export const player = new Player({ button: found("play"), step: () => queue.do(page.does.step), rate });
-export const queue = new Queue({
-  busy: document.querySelector("main"),
-  note: tell,
-  ended: (fault) => {
-    if (fault) player.pause();
-    tell(fault ? faultText(fault.message, page.wanted) : "");
-  },
-});
-export const picture = new Picture(found("picture"), (thing) => page.does.touch(thing));
+export const picture = new Picture(found("picture"), (thing) => touch(thing, picture.focus));
 export const naivePicture = new Picture(found("naive-picture"), () => {});
 export const timeline = new Timeline({
   names: found("timeline-names"),
@@ -43,26 +25,28 @@ export const timeline = new Timeline({
   svg: found("timeline"),
   veil: found("timeline-veil"),
   cursor: found("timeline-cursor"),
-  jump: (place) => page.does.scrub(place),
-  takeOther: () => page.does.takeOther(),
+  jump: scrub,
+  takeOther,
   hint: (text) => setText(found("timeline-hint"), text),
 });
 export const enabledList = new EnabledList({
   list: found("enabled"),
   many: found("many"),
   step: found("step"),
-  choose: pressEvent,
+  choose: press,
   light: (site, edge) => picture.light(site, edge),
 });
 export const why = new Why({
   heading: found("why-name"),
   box: found("why"),
   close: found("unselect"),
-  choose: pressEvent,
+  choose: press,
 });
 export const codeView = new CodeView({ list: found("code-lines"), note: found("code-note") });
-export const quiz = new Quiz({ form: found("quiz"), checked: () => page.does.show() });
-export const siteTable = new SiteTable(found("sites"), turnSite);
+export const quiz = new Quiz({ form: found("quiz"), checked: () => session.change() });
+export const siteTable = new SiteTable(found("sites"), (site) => {
+  session.change({ selected: site === session.state.selected ? null : site });
+});
 export const edgeTable = new EdgeTable(found("edges"));
 export const compareView = new CompareView(found("compare"), (work) => queue.do(work));
 export const planEditor = new PlanEditor({
@@ -77,8 +61,8 @@ export const planEditor = new PlanEditor({
   note: found("own-note"),
   add: found("own-add"),
   removing: found("own-remove"),
-  read: async (text) => (await page.program.states(text, [], [0]))[0],
-  open: (plan) => page.does.openWritten(plan),
+  read: async (text) => (await session.state.program.states(text, [], [0]))[0],
+  open: openWritten,
 });
 export const lessonPanel = new LessonPanel({
   panel: found("lesson"),
@@ -94,6 +78,6 @@ export const lessonPanel = new LessonPanel({
   whatIf: found("what-if"),
   save: found("save"),
   remove: found("remove"),
-  play: () => page.does.showNext(),
-  checked: () => page.does.show(),
+  play: showNext,
+  checked: () => session.change(),
 });

@@ -69,6 +69,7 @@ export class Picture {
 
   // Draws what stays the same through all states of a plan: all sites, or one in the middle with its neighbours.
   open(state, room, focus = null) {
+    this.focus = focus;
     const scale = Math.max(room.rem, Math.min(room.width / DRAWN.width, room.height / DRAWN.height));
     const [width, height] = [room.width / scale, room.height / scale];
     this.svg.replaceChildren();

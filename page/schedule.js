@@ -69,6 +69,11 @@ export class Schedule {
     this.pending = null;
   }
 
+  // What differs between two states of a schedule.
+  get key() {
+    return `${this.version} ${this.at}`;
+  }
+
   // Has a list of choices, of which `at` are done, all if it is null. Those that name no event are left out.
   async open(list, at) {
     const events = list.length ? await this.program.events(this.plan, list) : null;

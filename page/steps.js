@@ -1,13 +1,14 @@
-// Steps along a schedule, and the plans that schedules are of.
+// Steps along a schedule, and the plans that schedules are of. What shows them listens to the session.
 
-import { between, setAttribute, setText } from "./marks.js";
-import { found, page, rate, seed } from "./state.js";
+import { between, setText } from "./marks.js";
+import { found, rate, seed, session } from "./session.js";
 import { NaiveTable } from "./naive.js";
-import { edgeTable, player, queue, siteTable } from "./parts.js";
 import { findWait } from "./finding.js";
+import { Player, Queue } from "./queue.js";
+import { faultText } from "./refusals.js";
 import { Schedule, drawn } from "./schedule.js";
 import { wayFrom } from "./lessons.js";
-import { hubSite, isCrowded, noteAddress, openPicture, show, showKinds } from "./view.js";
+import { eventOf } from "./touch.js";
 
 // How long the page waits for a run on threads before it says so, and can be stepped meanwhile, in milliseconds.
 const PATIENCE = 2000;
@@ -16,49 +17,91 @@ const PAST = 50;
 // How long a letter flies along its edge, in milliseconds.
 export const FLIGHT = 600;
 
+// The place on the timeline that a pointer went to last.
+let scrubbed = 0;
+
+// Shows a line about what went wrong, or none.
+export function tell(line) {
+  setText(found("fault"), line);
+  found("fault").hidden = line === "";
+}
+
+export const player = new Player({ button: found("play"), step: () => queue.do(step), rate });
+export const queue = new Queue({
+  busy: document.querySelector("main"),
+  note: tell,
+  ended: (fault) => {
+    if (fault) player.pause();
+    tell(fault ? faultText(fault.message, session.state.wanted) : "");
+  },
+});
+
 // Keeps the list that is shown, so that it can be had back. If events of it are still to come, the timeline has them.
 function remember() {
-  const { list, at, isOfThreads, own } = page.schedule;
+  const { schedule: { list, at, isOfThreads, own }, past, other } = session.state;
   const kept = { list, at, isOfThreads, own };
-  page.past = [...page.past.slice(1 - PAST), { ...kept, other: page.other }];
-  if (at < list.length) page.other = kept;
+  session.set({ past: [...past.slice(1 - PAST), { ...kept, other }], other: at < list.length ? kept : other });
 }
 
 // Does the enabled event with this number.
 async function doEvent(number) {
-  const { schedule } = page;
+  const { schedule } = session.state;
   pace(player.isPlaying ? Math.min(FLIGHT, 800 / rate()) : FLIGHT);
   if (schedule.list[schedule.at] !== number) remember();
   await schedule.choose(number, !player.isPlaying);
-  show();
+  session.change();
 }
 
-export function choose(number) {
+// Does the enabled event of this number, as the reader asks for it.
+export function press(number) {
+  pause();
   return queue.do(async () => {
-    if (number < page.schedule.state.enabled.length) await doEvent(number);
+    if (number < session.state.schedule.state.enabled.length) await doEvent(number);
   });
+}
+
+// Does the event of a thing that was tapped, or says why there is none. If one site and its neighbours are in focus, a
+// tap on another one shows that.
+export function touch(thing, focus) {
+  pause();
+  const { schedule, selected, lesson } = session.state;
+  const { site } = thing;
+  const isElsewhere = site !== undefined && focus !== null && site !== focus;
+  const { event, words, why } = eventOf(schedule.state, thing);
+  if (isElsewhere || (site !== undefined && document.body.classList.contains("asks"))) {
+    session.change({ selected: site === selected ? null : site });
+  } else if (event) {
+    if (site !== undefined && !lesson) session.set({ selected: site });
+    press(event.number);
+  } else {
+    const isAgain = site !== undefined && site === selected;
+    const touched = isAgain ? null : { words, why, key: schedule.key };
+    session.change({ touched, selected: site === undefined ? selected : isAgain ? null : site });
+  }
 }
 
 export function chooseRandom() {
   return queue.do(async () => {
-    const count = page.schedule.state.enabled.length;
-    if (count > 0) await doEvent(drawn(seed(), page.schedule.at, count));
+    const { at, state: { enabled } } = session.state.schedule;
+    if (enabled.length > 0) await doEvent(drawn(seed(), at, enabled.length));
   });
 }
 
 async function restore({ list, at, isOfThreads, own = list.length }) {
-  await page.schedule.open(list, at);
-  Object.assign(page.schedule, { isOfThreads, own });
-  show();
+  const { schedule } = session.state;
+  await schedule.open(list, at);
+  Object.assign(schedule, { isOfThreads, own });
+  session.change();
 }
 
 // Takes back the last change of the list.
 export function undo() {
   pause();
   return queue.do(async () => {
-    const last = page.past.pop();
+    const { past } = session.state;
+    const last = past.at(-1);
     if (!last) return;
-    page.other = last.other;
+    session.set({ past: past.slice(0, -1), other: last.other });
     await restore(last);
   });
 }
@@ -67,9 +110,9 @@ export function undo() {
 export function takeOther() {
   pause();
   return queue.do(async () => {
-    const { other, schedule: { list, isOfThreads, own } } = page;
+    const { other, schedule: { list, isOfThreads, own } } = session.state;
     remember();
-    page.other = { list, at: other.at, isOfThreads, own };
+    session.set({ other: { list, at: other.at, isOfThreads, own } });
     await restore(other);
   });
 }
@@ -78,7 +121,7 @@ export function takeOther() {
 export function showWait() {
   pause();
   return queue.do(async () => {
-    const { schedule } = page;
+    const { schedule } = session.state;
     const [site, least] = ["find-site", "find-count"].map((it) => Number(found(it).value));
     const { list, wait, runs } = await findWait(schedule, site, Math.max(1, least), seed());
     const { name } = schedule.state.sites[site];
@@ -88,25 +131,23 @@ export function showWait() {
     }
     const words = list ? `Run ${runs} of those tried: ${name} waits, events ${wait.from + 1} to ${wait.to}.`
       : `${name} waits so long in none of ${runs.toLocaleString("en")} random runs.`;
-    page.finding = { words, version: schedule.version };
-    show();
+    session.change({ finding: { words, version: schedule.version } });
   });
 }
 
 export function jump(count) {
   pause();
   return queue.do(async () => {
-    const { schedule } = page;
+    const { schedule } = session.state;
     await schedule.go(between(0, count(schedule), schedule.list.length));
-    show();
+    session.change();
   });
 }
 
 // Goes along with a pointer that is dragged over the timeline: only to where it is last.
 export function scrub(place) {
-  page.scrubbed = place;
-  if (queue.waiting === 0) jump(() => page.scrubbed);
-  else if (queue.waiting === 1) jump(() => page.scrubbed);
+  scrubbed = place;
+  if (queue.waiting <= 1) jump(() => scrubbed);
 }
 
 // How long a mark takes to where it goes, in milliseconds.
@@ -116,21 +157,22 @@ export function pace(wait) {
 
 // Does the event that follows, and stops playing if there is none.
 export async function step() {
-  const { schedule } = page;
+  const { schedule, naive } = session.state;
   const number = schedule.next(found("pick").value, seed());
-  if (number === null || (page.isPlain && !page.naive.hasNext())) {
+  if (number === null || (session.state.isPlain && !naive.hasNext())) {
     pause();
     return;
   }
   await doEvent(number);
-  const isEndOfWay = page.lesson !== null && !page.isPlain && schedule.at === page.way.length;
+  const { lesson, isPlain, way } = session.state;
+  const isEndOfWay = lesson !== null && !isPlain && schedule.at === way.length;
   if (isEndOfWay || schedule.next("first", 0) === null) pause();
 }
 
 // Ends what plays by itself.
 export function pause() {
-  page.walk?.skip();
-  page.walk = null;
+  session.state.walk?.skip();
+  session.set({ walk: null });
   player.pause();
 }
 
@@ -138,9 +180,9 @@ export function pause() {
 export function runOnThreads() {
   pause();
   return queue.do(async () => {
-    const { plan } = page.schedule;
-    if (!page.program.hasRun(plan) || !found("building").hidden) return;
-    const run = page.program.run(plan);
+    const { program, schedule: { plan } } = session.state;
+    if (!program.hasRun(plan) || !found("building").hidden) return;
+    const run = program.run(plan);
     const isLate = await Promise.race([run.then(() => false), new Promise((then) => setTimeout(then, PATIENCE, true))]);
     if (isLate) playLater(run, plan);
     else await playRun(await run);
@@ -162,64 +204,30 @@ async function playLater(run, plan) {
   found("building").hidden = true;
   queue.do(async () => {
     const list = await run;
-    if (page.schedule.plan !== plan) return;
+    if (session.state.schedule.plan !== plan) return;
     pause();
     await playRun(list);
   });
 }
 
-export function showRate() {
-  setText(found("rate"), `${Number(rate().toPrecision(2))}/s`);
-  setAttribute(found("speed"), "aria-valuetext", `${Number(rate().toPrecision(2))} events a second`);
-  noteAddress();
-}
-
-export function quicker(by) {
-  found("speed").value = Number(found("speed").value) + by;
-  showRate();
-}
-
 // Shows a plan after the choices, of which `at` are done.
 export async function openPlan({ path, plan, list = [], at = null, isOfThreads = false }) {
-  page.wanted = plan;
-  const opened = new Schedule(page.program, path, plan);
-  await opened.open(list, at);
+  session.set({ wanted: plan });
+  const schedule = new Schedule(session.state.program, path, plan);
+  await schedule.open(list, at);
   pause();
-  opened.isOfThreads = isOfThreads;
-  const { state } = opened;
-  Object.assign(page, { schedule: opened, selected: null, hub: hubSite(state), naive: new NaiveTable(state) });
-  Object.assign(page, { past: [], other: null, touched: null, finding: null, isFront: false, isTurned: true });
-  if (path === null) offerOwn();
-  found("threads").hidden = !page.program.hasRun(plan);
-  setText(found("threads"), page.program.isServed ? "Run on threads" : "Recorded run on threads");
-  found("plans").value = path ?? "";
-  setText(found("about"), aboutOf(plan));
-  setAttribute(found("about"), "title", aboutOf(plan));
-  found("focus-switch").hidden = !isCrowded(state);
-  found("find-site").replaceChildren(...state.sites.map(({ name }, site) => new Option(name, site)));
-  siteTable.open(opened.state);
-  edgeTable.open(opened.state);
-  openPicture();
-  show();
-}
-
-// What a plan says of itself: the comment that it begins with, up to what is tried of it.
-function aboutOf(plan) {
-  const lines = plan.split("\n");
-  const end = lines.findIndex((line) => !line.startsWith("# ") || /^# [a-z][^>]*> /.test(line));
-  return lines.slice(0, end < 0 ? lines.length : end).map((line) => line.slice(2)).join(" ");
-}
-
-function offerOwn() {
-  const { options } = found("plans");
-  if (![...options].some(({ value }) => value === "")) found("plans").add(new Option("own plan", ""));
+  schedule.isOfThreads = isOfThreads;
+  session.open({
+    schedule, selected: null, naive: new NaiveTable(schedule.state), past: [], other: null, touched: null,
+    finding: null, isFront: false, isTurned: true,
+  });
 }
 
 export function openOffered() {
   const path = found("plans").value;
   return queue.do(async () => {
     if (path === "") return;
-    await openPlan({ path, plan: page.plans.get(path) });
+    await openPlan({ path, plan: session.state.plans.get(path) });
     leaveLesson();
   });
 }
@@ -241,28 +249,19 @@ export async function openWritten(plan) {
 // Has the page show what a moment of a lesson asks for, or all if there is none.
 export function takeUp(lesson, place = 0) {
   const moment = lesson?.moments[place];
-  const site = page.schedule?.state.sites.findIndex(({ name }) => name === moment?.site) ?? -1;
-  Object.assign(page, {
-    lesson,
-    moment: place,
-    way: moment ? wayFrom(lesson.moments, place) : [],
-    kinds: moment?.show ?? null,
-    isPlain: moment?.naive === "alone",
-    selected: site < 0 ? null : site,
-    isFront: false,
-    isOpen: false,
-    isTurned: true,
-    touched: null,
-    best: null,
-  });
+  const site = session.state.schedule?.state.sites.findIndex(({ name }) => name === moment?.site) ?? -1;
   found("lessons").value = lesson?.path ?? "";
   found("naive").checked = moment?.naive === true;
   found("predict").checked = moment?.hide === true;
-  showKinds();
+  session.change({
+    lesson, moment: place, way: moment ? wayFrom(lesson.moments, place) : [], kinds: moment?.show ?? null,
+    isPlain: moment?.naive === "alone", selected: site < 0 ? null : site, isFront: false, isOpen: false,
+    isTurned: true, touched: null, best: null,
+  });
 }
 
 // Goes on without a lesson. The switches that a moment had set go back; what the reader had set stays.
 export function leaveLesson() {
-  if (page.lesson || page.kinds) takeUp(null);
-  else show();
+  if (session.state.lesson || session.state.kinds) takeUp(null);
+  else session.change();
 }

@@ -2,12 +2,10 @@
 
 import { wholeLesson } from "./address.js";
 import { setAttribute, setText, textElement } from "./marks.js";
-import { found, page } from "./state.js";
+import { found, session } from "./session.js";
 import { OWN, SENT, keepLesson, ownLesson } from "./moments.js";
 import { numbersIn, placeOf, wayFrom } from "./lessons.js";
-import { lessonPanel, queue } from "./parts.js";
-import { FLIGHT, openPlan, pace, pause, takeUp } from "./steps.js";
-import { show } from "./view.js";
+import { FLIGHT, openPlan, pace, pause, queue, takeUp } from "./steps.js";
 
 // How long all events on the way to a moment may take, in milliseconds.
 const WALK = 6000;
@@ -35,25 +33,21 @@ function lessonIn(text) {
 export function lessonSent(text) {
   const { title, moments } = lessonIn(text);
   if (!Array.isArray(moments) || !moments.every(isMoment)) throw new Error("the lesson of the address is none");
-  const known = [...page.lessons, ownLesson()].find((it) => wholeLesson(it) === text);
+  const { lessons } = session.state;
+  const known = [...lessons, ownLesson()].find((it) => wholeLesson(it) === text);
   const lesson = known ?? { path: SENT, title, moments };
-  if (lesson.path === SENT) page.lessons = [...page.lessons.filter(({ path }) => path !== SENT), lesson];
+  if (lesson.path === SENT) session.set({ lessons: [...lessons.filter(({ path }) => path !== SENT), lesson] });
   offerLessons();
   return lesson;
 }
 
 export function lessonOf(path) {
-  return path === OWN ? ownLesson() : page.lessons.find((it) => it.path === path) ?? null;
-}
-
-// The first of the lessons that the page offers.
-export function firstLesson() {
-  return page.lessons[0] ?? null;
+  return path === OWN ? ownLesson() : session.state.lessons.find((it) => it.path === path) ?? null;
 }
 
 // Whether the events up to a moment follow in the list from what is shown.
 function isAhead({ text, choices }, to) {
-  const { plan, list, at } = page.schedule;
+  const { plan, list, at } = session.state.schedule;
   if (text !== plan || at >= to || to > list.length) return false;
   return numbersIn(choices).slice(0, to).every((it, turn) => list[turn] === it);
 }
@@ -62,7 +56,7 @@ function isAhead({ text, choices }, to) {
 export function openMoment(place, isPlayed = false) {
   pause();
   return queue.do(async () => {
-    const { lesson } = page;
+    const { lesson } = session.state;
     const moment = lesson?.moments[place];
     if (!moment) return;
     if (!isPlayed || !isAhead(moment, placeOf(moment))) {
@@ -74,38 +68,38 @@ export function openMoment(place, isPlayed = false) {
   });
 }
 
-// Goes on to the next moment, or to the end of the way there if it is on it. A question is passed at the second try.
-export function openNext() {
-  if (!page.lesson || (!page.walk && lessonPanel.isHeld())) return null;
-  return page.walk ? openMoment(page.moment) : openMoment(page.moment + 1, true);
+// Goes on to the next moment, or to the end of the way there if it is on it. `isHeld` says whether a question holds it
+// up, which is passed at the second try.
+export function openNext(isHeld) {
+  const { lesson, moment, walk } = session.state;
+  if (!lesson || (!walk && isHeld())) return null;
+  return walk ? openMoment(moment) : openMoment(moment + 1, true);
 }
 
 // Plays the events up to the next moment, and stays in this one.
 export function showNext() {
-  const next = page.lesson.moments[page.moment + 1];
+  const next = session.state.lesson.moments[session.state.moment + 1];
   pause();
-  return queue.do(() => walk(Math.min(page.schedule.list.length, placeOf(next))));
+  return queue.do(() => walk(Math.min(session.state.schedule.list.length, placeOf(next))));
 }
 
 // Plays events one after the other, until something else is asked for.
 async function walk(to) {
   const walking = { skip: () => {} };
-  page.walk = walking;
+  const { schedule } = session.state;
   const isStill = matchMedia("(prefers-reduced-motion: reduce)").matches;
-  const wait = isStill ? 0 : Math.min(FLIGHT, WALK / Math.max(1, to - page.schedule.at));
+  const wait = isStill ? 0 : Math.min(FLIGHT, WALK / Math.max(1, to - schedule.at));
   pace(wait);
-  show();
-  while (page.walk === walking && page.schedule.at < to) {
-    await page.schedule.go(wait ? page.schedule.at + 1 : to);
-    show();
+  session.change({ walk: walking });
+  while (session.state.walk === walking && schedule.at < to) {
+    await schedule.go(wait ? schedule.at + 1 : to);
+    session.change();
     await new Promise((resolve) => {
       walking.skip = resolve;
       setTimeout(resolve, wait);
     });
   }
-  if (page.walk !== walking) return;
-  page.walk = null;
-  show();
+  if (session.state.walk === walking) session.change({ walk: null });
 }
 
 export async function openScheduleOf(lesson, place) {
@@ -128,11 +122,12 @@ export function beginLesson(lesson) {
 
 // Shows the moments of the lesson, of which one is opened by a click.
 export function openMoments() {
-  const items = page.lesson.moments.map(({ title, question }, place) => {
+  const { lesson, moment } = session.state;
+  const items = lesson.moments.map(({ title, question }, place) => {
     const item = document.createElement("li");
     const button = textElement("button", title || `Moment ${place + 1}`, "quiet");
     button.type = "button";
-    if (place === page.moment) setAttribute(button, "aria-current", "step");
+    if (place === moment) setAttribute(button, "aria-current", "step");
     button.addEventListener("click", () => {
       found("moments").close();
       openMoment(place);
@@ -141,20 +136,21 @@ export function openMoments() {
     return item;
   });
   found("moments-list").replaceChildren(...items);
-  setText(found("moments-name"), page.lesson.title);
+  setText(found("moments-name"), lesson.title);
   found("moments").showModal();
-  items[page.moment]?.firstChild.focus();
+  items[moment]?.firstChild.focus();
 }
 
 export function offerLessons() {
   const menu = found("lessons");
-  const items = page.lessons.map(({ path, title }) => new Option(title, path));
+  const { lesson: shown, lessons } = session.state;
+  const items = lessons.map(({ path, title }) => new Option(title, path));
   // A saved lesson that is opened has the same title.
   const { title } = ownLesson();
-  items.push(new Option(page.lessons.some((it) => it.title === title) ? `${title}, in this browser` : title, OWN));
+  items.push(new Option(lessons.some((it) => it.title === title) ? `${title}, in this browser` : title, OWN));
   menu.replaceChildren(new Option("no lesson", ""), ...items);
-  menu.value = page.lesson?.path ?? "";
-  const list = page.lessons.filter(({ path }) => path !== SENT).map((lesson) => {
+  menu.value = shown?.path ?? "";
+  const list = lessons.filter(({ path }) => path !== SENT).map((lesson) => {
     const [item, button] = [document.createElement("li"), textElement("button", lesson.title, "quiet")];
     button.type = "button";
     button.addEventListener("click", () => beginLesson(lesson));
@@ -167,7 +163,7 @@ export function offerLessons() {
 // Asks for the words of the moment that is shown.
 export function writeMoment() {
   pause();
-  const { state, at } = page.schedule;
+  const { state, at } = session.state.schedule;
   found("keep-title").value = at === 0 ? "The start" : state.last?.words ?? `After event ${at}`;
   found("keep-dialog").showModal();
   found("keep-title").select();
@@ -175,8 +171,8 @@ export function writeMoment() {
 
 // Keeps the moment that is shown, at the end of the reader's own lesson.
 export function keepMoment() {
-  const { path, plan, list, at } = page.schedule;
-  const isOffered = path !== null && page.plans.get(path) === plan;
+  const { plans, schedule: { path, plan, list, at }, lesson: shown } = session.state;
+  const isOffered = path !== null && plans.get(path) === plan;
   const words = { title: found("keep-title").value.trim() || `Event ${at}`, note: found("keep-note").value.trim() };
   const lesson = ownLesson();
   lesson.moments.push({ plan: isOffered ? path : null, text: plan, choices: list.join(","), at, ...words });
@@ -184,7 +180,7 @@ export function keepMoment() {
   found("keep-note").value = "";
   found("keep-dialog").close();
   // A lesson that is shown stays.
-  if (!page.lesson || page.lesson.path === OWN) takeUp(lesson, lesson.moments.length - 1);
+  if (!shown || shown.path === OWN) takeUp(lesson, lesson.moments.length - 1);
   else sayKept();
   offerLessons();
 }
@@ -196,8 +192,8 @@ function sayKept() {
 
 export function removeMoment() {
   const lesson = ownLesson();
-  lesson.moments.splice(page.moment, 1);
+  lesson.moments.splice(session.state.moment, 1);
   keepLesson(lesson);
-  takeUp(lesson, Math.max(0, Math.min(page.moment, lesson.moments.length - 1)));
-  openMoment(page.moment);
+  takeUp(lesson, Math.max(0, Math.min(session.state.moment, lesson.moments.length - 1)));
+  openMoment(session.state.moment);
 }

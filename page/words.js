@@ -2,7 +2,7 @@
 
 import { WORDS, partsOf } from "./glossary.js";
 import { textElement } from "./marks.js";
-import { found } from "./state.js";
+import { found } from "./session.js";
 
 // Opens the dialog of words, at one of them if a key is given.
 export function openWords(key = null) {

@@ -237,7 +237,7 @@ def bytes_of(folder):
 @slow
 def test_same_bytes(clone, tmp_path):
     """They are made alike in another folder, static, and small."""
-    assert answer_of(["--write", f"{tmp_path}/more"], f"{HOME}/tools/programs").status == 0
+    assert answer_of(["--write", f"{tmp_path}/more"], f"{HOME}/tools/programs", None).status == 0
     found = bytes_of(clone / "programs")
     assert found == bytes_of(tmp_path / "more") and sorted(os.listdir(tmp_path / "more")) == sorted(found)
     for name in ("dine", "dine_trace"):

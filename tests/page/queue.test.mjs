@@ -3,7 +3,7 @@ import assert from "node:assert/strict";
 import test from "node:test";
 
 import { Player, Queue } from "../../page/queue.js";
-import { rate, seed } from "../../page/state.js";
+import { rate, seed } from "../../page/session.js";
 
 // A queue, and what it does: work that is done, faults, notes, and what it says of being at work.
 function queueOf() {

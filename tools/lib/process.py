@@ -21,7 +21,7 @@ class Answer(NamedTuple):
     error: str
 
 
-def answer_of(words, program=f"{HOME}/dine", seconds=120, **how):
+def answer_of(words, program=f"{HOME}/dine", seconds=600, **how):
     """Runs a program with arguments, passing `how` to subprocess.run, and returns its status and output."""
     # A build has no limit of time, and starts programs of its own, which end with it.
     bound = BOUND if seconds is None else []
