@@ -24,7 +24,7 @@ pytestmark = pytest.mark.timeout(3000)
 PLANS = ("plans/pair.toml", "plans/ring_of_five.toml", "plans/resigning_site.toml", "tests/cases/values.toml",
          "tests/cases/triangle.toml")
 # How many lists of choices are replayed of each plan.
-LISTS = 500
+LISTS = 200
 RT = shutil.which("rt")
 KIT = os.path.dirname(os.path.dirname(os.path.realpath(RT))) if RT else ""
 # Before a command: it runs where the kit cannot be seen.
