@@ -177,9 +177,9 @@ def test_changed_proof_is_of_its_function(place, function, checks):
 ])
 def test_functions_that_are_said_to_fail(place, fails, checks):
     """One that changes a definition is tried on these alone, and on all if they are proved or not there."""
-    place.build()
     (place.home / "crates/numbers/specs").mkdir()
     (place.home / "crates/numbers/specs/Numbers.antt").write_text("number = 1\n")
+    place.build()
     more = "file: specs/Numbers.antt\nold: number = 1\nnew: number = 2\n"
     ran = place.tries({"one_is_wrong": (*WRONG["one_is_wrong"], more)}, fails=fails)
     assert (ran[::2], place.checks()) == ((0, "1 passed, 0 failed"), checks)
