@@ -12,7 +12,7 @@ pytestmark = [pytest.mark.kit, pytest.mark.early, pytest.mark.slow, pytest.mark.
 @pytest.mark.parametrize("path", [it.removeprefix("crates/") for it in paths("crates/*/misuse/*.edit")])
 def test_mutant(tmp_path, path):
     crate = path.split("/")[0]
-    error, changes = mutant(text_of(f"crates/{path}"))
+    error, _, changes = mutant(text_of(f"crates/{path}"))
     texts = applied(changes, f"{HOME}/crates/{crate}")
     copy_crates(crate, tmp_path)
     for file, text in texts.items():

@@ -3,7 +3,9 @@ import os
 import re
 import shutil
 import subprocess
+import time
 import types
+from concurrent.futures import ThreadPoolExecutor
 from pathlib import Path
 
 import pytest
@@ -71,13 +73,15 @@ class Place:
     def write(self, source):
         (self.home / "crates/numbers/src/lib.rt").write_text(source)
 
-    def tries(self, mutants, *words):
-        """Tries these mutants alone. Returns the status, the lines by the mutant's name, and the last one."""
+    def tries(self, mutants, *words, fails=""):
+        """Tries these mutants alone, which say of these functions that their proofs fail. Returns the status, the lines
+        by the mutant's name, and the last one."""
         folder = self.home / "crates/numbers/mutants"
         for it in folder.iterdir():
             it.unlink()
         for name, (old, new, *more) in mutants.items():
-            (folder / f"{name}.edit").write_text("".join([f"file: src/lib.rt\nold: {old}\nnew: {new}\n", *more]))
+            top = f"fails: {fails}\n" if fails else ""
+            (folder / f"{name}.edit").write_text("".join([f"{top}file: src/lib.rt\nold: {old}\nnew: {new}\n", *more]))
         ran = subprocess.run([self.home / "tools/mutants", *words], env=self.how, capture_output=True, text=True,
                              check=False)
         *lines, last = ran.stdout.splitlines() or [ran.stderr]
@@ -166,6 +170,39 @@ def test_changed_proof_is_of_its_function(place, function, checks):
     mutants = {**WRONG, "three_is_wrong": (*WRONG["three_is_wrong"], more)}
     assert place.tries(mutants, "--lanes", "1")[::2] == (0, "2 passed, 0 failed")
     assert place.checks()[1:] == checks
+
+
+@pytest.mark.parametrize(("fails", "checks"), [
+    ("one", ["one: one"]), ("two", ["two: one"]), ("three", ["three: ", "all: one"]), ("four", ["four: ", "all: one"]),
+])
+def test_functions_that_are_said_to_fail(place, fails, checks):
+    """One that changes a definition is tried on these alone, and on all if they are proved or not there."""
+    (place.home / "crates/numbers/specs").mkdir()
+    (place.home / "crates/numbers/specs/Numbers.antt").write_text("number = 1\n")
+    place.build()
+    more = "file: specs/Numbers.antt\nold: number = 1\nnew: number = 2\n"
+    ran = place.tries({"one_is_wrong": (*WRONG["one_is_wrong"], more)}, fails=fails)
+    assert (ran[::2], place.checks()) == ((0, "1 passed, 0 failed"), checks)
+
+
+@pytest.mark.parametrize("kind", ["", " staticlib"])
+def test_crate_is_tried_once_it_is_built(place, kind):
+    """A library at once, and another crate when nothing else builds crates any more."""
+    (place.home / "crates.txt").write_text(f"low:\nnumbers{kind}: low\n")
+    over, calls = place.folder / "over", ["one,three: one,three"]
+    with ThreadPoolExecutor() as pool:
+        try:
+            ran = pool.submit(place.tries, WRONG, "--beside", str(over))
+            time.sleep(4)
+            assert not place.notes.exists()
+            place.build()
+            ends = time.time() + (8 if kind else 60)
+            while not (found := place.checks()) and time.time() < ends:
+                time.sleep(0.5)
+            assert found == ([] if kind else calls)
+        finally:
+            over.touch()
+        assert (ran.result()[::2], place.checks()) == ((0, "2 passed, 0 failed"), calls if kind else [])
 
 
 def test_many_share_several_checks(place):

@@ -41,7 +41,9 @@ def test_case(page, name):
 @pytest.mark.slow
 @pytest.mark.parametrize(("path", "count"), PLAYED)
 def test_schedule(page, path, count):
-    """After random choices, of which some name no event, the buttons lead to an end as the program has it."""
+    """After random choices, of which some name no event, the buttons lead to an end as the program has it. Marks fly on
+    plans of a pair alone, since each flight takes its time."""
+    page.look(motion="no-preference" if "pair" in path else "reduce")
     chance, plan = random.Random(path), text_of(path)
     where = f"plan={path}" if path.startswith("plans/") else f"text={urllib.parse.quote(plan)}"
     page.open(f"{where}&seed={count}&choices={','.join(str(chance.randrange(6)) for _ in range(count))}")
@@ -63,6 +65,7 @@ def test_double_click(page):
 
 def test_picture_and_tables(page):
     """Arrows, ranks, tables and marks are as the program says at each event, which is named. A meal turns arrows."""
+    page.look(motion="reduce")
     page.open(RING)
     assert "".join(page.texts("#picture .rank text")) == "43210"
     chance, turned = random.Random("marks"), set()

@@ -33,9 +33,11 @@ def test_planted_bug_changes_the_sources(name):
 
 @pytest.mark.parametrize("path", paths("crates/*/misuse/*.edit") + paths("crates/*/mutants/*.edit"))
 def test_mutant_changes_the_sources(path):
-    error, changes = mutant(text_of(path))
-    applied(changes, f"{HOME}/{os.path.dirname(os.path.dirname(path))}")
-    assert bool(error) == ("/misuse/" in path), "a text of the error belongs to misuse/"
+    it, is_misuse = mutant(text_of(path)), "/misuse/" in path
+    applied(it.changes, f"{HOME}/{os.path.dirname(os.path.dirname(path))}")
+    assert bool(it.refused) == is_misuse, "a text of the error belongs to misuse/"
+    is_wide = any(not file.startswith("src/") for file, *_ in it.changes)
+    assert not it.fails or is_wide and not is_misuse, "the functions that fail are said of definitions and proofs alone"
 
 
 def test_what_is_unsafe_is_told():

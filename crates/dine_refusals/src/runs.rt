@@ -2,11 +2,10 @@
 use crate::calls::Outcome;
 use crate::pair::pair;
 use dine::{PlanDiner, open_diners};
+use dine_jobs::{Job, JobsCause, Table, no_values, on_channels, on_rings};
 use dine_link::Lane;
-use dine_run::{
-    Job, JobFault, JobsCause, Joined, RunCause, RunFault, Table, no_values, on_channels, on_rings,
-    run,
-};
+use dine_site::JobFault;
+use dine_threads::{Joined, RunCause, RunFault, run};
 use std::alloc::{AllocError, Global};
 use std::sync::Wait;
 use std::thread::Threads;

@@ -1,7 +1,7 @@
 // One site, whose links and bell are filled before it starts.
 ghost use Rattle.std.specs.Prelude.{◌≡◌, ◌<◌, ◌≤◌, ◌+◌, ◌^◌, false, All, IfOk, length, vec_len};
 ghost use Rattle.dine_link.specs.Links.{IsUnused};
-ghost use Rattle.dine_run.specs.Ports.{IsFreshPort, seen_ports};
+ghost use Rattle.dine_site.specs.Ports.{IsFreshPort, seen_ports};
 
 use crate::pair::pair;
 use dine_core::SiteCore;
@@ -9,7 +9,7 @@ use dine_core::site::{fresh_forks, fresh_tokens};
 use dine_link::{Bell, Lane, Ringer, TxEnd};
 use dine_plan::Plan;
 use dine_rules::{Kind4, Letter};
-use dine_run::{Port, SiteEnd, SiteFault, run_site};
+use dine_site::{Port, SiteEnd, SiteFault, run_site};
 use dine_test_diners::Taster;
 use dine_token::Token;
 use std::alloc::{AllocError, Global};

@@ -1,7 +1,7 @@
 // The tables of a run, and the text of a world.
 ghost use Rattle.std.specs.Prelude.{◌≡◌, IfOk};
 ghost use Rattle.dine_graph.specs.Plan.{edge_count, site_count};
-ghost use Rattle.dine_run.specs.Tables.{IsGatheredOf};
+ghost use Rattle.dine_threads.specs.Tables.{IsGatheredOf};
 
 use crate::calls::Outcome;
 use crate::pair::pair;
@@ -9,7 +9,7 @@ use dine::{PlanDiner, world_text, write_edges, write_sites};
 use dine_core::World;
 use dine_link::{Bell, EmptyChecks, ThreadLog};
 use dine_plan::Plan;
-use dine_run::{EdgeRow, Gathered, SiteOut, SiteRow, edge_table, site_table};
+use dine_threads::{EdgeRow, Gathered, SiteOut, SiteRow, edge_table, site_table};
 use dine_token::Fork;
 use std::alloc::{AllocError, Global};
 

@@ -1,8 +1,8 @@
 // The order of the journals of two sites.
 use crate::asserts::same;
 use dine_core::{Event, EventKind, World};
+use dine_order::{OrderFault, order};
 use dine_plan::{Plan, read_plan};
-use dine_run::{OrderFault, order};
 use dine_test_plans::{HIGHER_JOURNAL, LOWER_JOURNAL, PAIR};
 use std::alloc::Global;
 use std::process::Abort;

@@ -2,7 +2,7 @@
 ghost use Rattle.std.specs.Prelude.{◌≡◌, ◌≤◌, false, All, vec_len};
 ghost use Rattle.dine_site_core.specs.Standing.{IsFreshFor};
 ghost use Rattle.dine_link.specs.Links.{IsUnused};
-ghost use Rattle.dine_run.specs.Ports.{IsFreshPort, seen_ports};
+ghost use Rattle.dine_site.specs.Ports.{IsFreshPort, seen_ports};
 
 mod diners;
 mod ends;
@@ -19,7 +19,7 @@ use dine_core::{EventKind, SiteCore};
 use dine_link::{Bell, ChannelLane, Lane, RingLane, Ringer, TxEnd};
 use dine_plan::{Plan, read_plan};
 use dine_rules::{Breach, Kind4};
-use dine_run::{Call, CallLog, Port, SiteFault, run_site};
+use dine_site::{Call, CallLog, Port, SiteFault, run_site};
 use dine_test_diners::Taster;
 use dine_test_plans::PAIR;
 use dine_token::Entry;

@@ -4,7 +4,7 @@ ghost use Rattle.dine_graph.specs.Plan.{job_count};
 ghost use Rattle.dine_core.specs.Worlds.{AreOutcomesFor, lists_of};
 
 use dine_plan::Plan;
-use dine_run::{CallLog, Diner, JobFault};
+use dine_site::{CallLog, Diner, JobFault};
 use dine_token::Meal;
 use std::alloc::{AllocError, Global};
 

@@ -1,8 +1,10 @@
 // The diner of a plan does its jobs.
 use crate::asserts::same;
 use dine::{PlanDiner, open_diners};
+use dine_link::RingLane;
 use dine_plan::read_plan;
-use dine_run::{Call, Gathered, RingLane, SiteOut, run};
+use dine_site::Call;
+use dine_threads::{Gathered, SiteOut, run};
 use std::alloc::Global;
 use std::process::Abort;
 use std::sync::Wait;

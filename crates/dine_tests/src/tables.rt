@@ -5,7 +5,7 @@ ghost use Rattle.dine_graph.specs.Plan.{edge_count, site_count};
 use crate::asserts::same;
 use dine::{write_edges, write_sites};
 use dine_plan::{Plan, read_plan};
-use dine_run::{EdgeRow, SiteRow};
+use dine_threads::{EdgeRow, SiteRow};
 use std::alloc::Global;
 use std::process::Abort;
 

@@ -2,7 +2,7 @@
 ghost use Rattle.std.specs.Prelude.{◌∷◌, [], true, slice_index_or};
 ghost use Rattle.std.proofs.Math.Bool.{beq};
 
-use dine_run::{CallLog, Diner, JobFault};
+use dine_site::{CallLog, Diner, JobFault};
 use dine_token::Meal;
 
 // All jobs of the diner go well or all fail, as its one mark says.

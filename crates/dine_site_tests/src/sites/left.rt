@@ -4,7 +4,7 @@ use crate::asserts::same;
 use dine_core::EventKind;
 use dine_link::{Lane, TxEnd};
 use dine_rules::Kind4;
-use dine_run::{Call, Port, SiteEnd, SiteFault};
+use dine_site::{Call, Port, SiteEnd, SiteFault};
 use dine_test_diners::Taster;
 use dine_token::{Entry, Fork, Token};
 use std::process::Abort;

@@ -1,11 +1,11 @@
 // A site that has a letter of its neighbour before its first meal, in each manner.
 ghost use Rattle.std.specs.Prelude.{◌≡◌, false, All, vec_len};
 ghost use Rattle.dine_link.specs.Links.{IsUnused};
-ghost use Rattle.dine_run.specs.Ports.{IsFreshPort, seen_ports};
+ghost use Rattle.dine_site.specs.Ports.{IsFreshPort, seen_ports};
 
 use super::ends::finds_three;
 use super::*;
-use dine_run::{Manner, run_site_with};
+use dine_site::{Manner, run_site_with};
 use dine_test_diners::Taster;
 
 // Two sites with an edge: the lower one has one job, and the higher one has two.

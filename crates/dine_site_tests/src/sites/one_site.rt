@@ -5,7 +5,7 @@ ghost use Rattle.dine_link.specs.Links.{IsUnused};
 use super::diners::Marked;
 use super::*;
 use dine_rules::Letter;
-use dine_run::JobFault;
+use dine_site::JobFault;
 use dine_test_plans::{ALONE, HIGHER_JOURNAL};
 
 // The journal of a site without edges that has two jobs.

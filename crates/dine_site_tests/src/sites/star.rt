@@ -2,7 +2,7 @@
 ghost use Rattle.std.specs.Prelude.{◌≡◌, false, All, vec_len};
 ghost use Rattle.dine_link.specs.Links.{IsUnused};
 ghost use Rattle.dine_link.specs.Channels as channels;
-ghost use Rattle.dine_run.specs.Ports.{IsFreshPort, seen_port, seen_ports};
+ghost use Rattle.dine_site.specs.Ports.{IsFreshPort, seen_port, seen_ports};
 
 use super::*;
 use dine_link::ChannelRx;
