@@ -154,8 +154,8 @@ def test_way_back_while_an_address_is_noted(page):
     said = "lesson=lessons/challenges.toml&moment=3"
     page.open(said)
     page.do("#home")
-    page.js("(one('#speed').dispatchEvent(new Event('input')), history.replaceState(null, '', `#${arguments[0]}`), null)",
-            said)
+    page.js("(one('#speed').dispatchEvent(new Event('input')), "
+            "history.replaceState(null, '', `#${arguments[0]}`), null)", said)
     time.sleep(1)
     assert page.js("location.hash") == f"#{said}"
     page.js("(dispatchEvent(new HashChangeEvent('hashchange')), null)")
