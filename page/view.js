@@ -359,6 +359,9 @@ function isAtMoment() {
 
 let noting = null;
 let writes = 0;
+// The address that was written or opened last. If the browser has another one, it is on its way back or on, and what
+// that one shows is opened in a moment.
+let here = location.href;
 
 export function noteAddress() {
   clearTimeout(noting);
@@ -371,6 +374,7 @@ export function noteAddress() {
 export function forgetAddress() {
   clearTimeout(noting);
   writes += 1;
+  here = location.href;
 }
 
 // Writes the address of the moment that is shown, and returns it. While an address is made, a later moment may be
@@ -383,7 +387,7 @@ export async function writeAddress() {
   const shown = { path, plan, list, at, isOfThreads, ...how, lesson, moment, best: record, isAtMoment: isAtMoment() };
   const said = isFront ? "" : await addressOf(shown);
   const address = location.href.replace(/#.*/s, "") + said;
-  if (write !== writes) return address;
+  if (write !== writes || location.href !== here) return address;
   session.set({ isTurned: false });
   try {
     // The way back of the browser leads to the moment or the plan before, and not through each event.
@@ -392,6 +396,7 @@ export async function writeAddress() {
   } catch {
     // A page within another may have no address of its own.
   }
+  here = location.href;
   found("too-long").hidden = address.includes("#") || isFront;
   return address;
 }

@@ -148,6 +148,20 @@ def test_way_on_and_home(page):
     page.until("one('#front').hidden && location.hash !== ''")
 
 
+def test_way_back_while_an_address_is_noted(page):
+    """What is noted of the first page does not go over the address to which the browser has gone back, of which the
+    page learns only later."""
+    said = "lesson=lessons/challenges.toml&moment=3"
+    page.open(said)
+    page.do("#home")
+    page.js("(one('#speed').dispatchEvent(new Event('input')), "
+            "history.replaceState(null, '', `#${arguments[0]}`), null)", said)
+    time.sleep(1)
+    assert page.js("location.hash") == f"#{said}"
+    page.js("(dispatchEvent(new HashChangeEvent('hashchange')), null)")
+    page.until("one('#front').hidden && one('#moment-count').textContent !== ''")
+
+
 def test_late_address(page):
     """An address that is made late does not go over that of what is shown by then."""
     page.look(390, 844, motion="reduce")

@@ -69,9 +69,8 @@ def ran(tool, *words, at=HOME):
     return answer_of(words, tool, 280, cwd=at)
 
 
-@pytest.mark.parametrize("path", PYTHON)
-def test_flake8(path):
-    assert ran("flake8", path) == Answer(0, "", "")
+def test_flake8():
+    assert ran("flake8", "--jobs", "1", *PYTHON) == Answer(0, "", "")
 
 
 def test_shellcheck():
