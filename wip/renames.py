@@ -614,7 +614,7 @@ def faults_of_changes(tree, seen):
     changes = {f"planted: {name}": (it, tree.top / "crates") for name, it in {**MANNERS, **BUGS}.items()}
     for path, text in seen.texts.items():
         if re.fullmatch(r"crates/\w+/(?:mutants|misuse)/\w+\.edit", path):
-            changes[path] = mutant(text)[1], (tree.top / path).parent.parent
+            changes[path] = mutant(text).changes, (tree.top / path).parent.parent
     for name, (pairs, folder) in changes.items():
         try:
             applied(pairs, folder)
