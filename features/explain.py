@@ -25,18 +25,20 @@ REFUSAL = re.compile(r"dine: plan refused: (\d+) (\w+)(?: at (site|edge) (\d+))?
 
 def of_the_page(module, name):
     """Returns a list of a module of the page, which tools/words writes there as JSON."""
-    return json.loads(re.search(rf"^const {name} = (\{{.*?^\}});", text_of(f"page/{module}.js"), re.S | re.M)[1])
+    pattern = rf"^(?:export )?const {name} = (\{{.*?^\}});"
+    return json.loads(re.search(pattern, text_of(f"page/{module}.js"), re.S | re.M)[1])
 
 
 # The keys of each table, with the version from which they are allowed and the kind of their values.
 TYPES = {"number": int, "array": list, "text": str, "truth": bool}
 KEYS = {table: {key: (since, TYPES[kind]) for key, (since, kind) in its.items()}
         for table, its in of_the_page("plan_places", "PLAN_KEYS").items()}
+LIMITS = of_the_page("plan_places", "LIMITS")
 NEEDED = {"site": "name", "job": "name", "edge": "ends"}
 KINDS = {int: "a whole number from 0", list: "an array", str: "a text in quotes", bool: "true or false"}
-LARGEST = 1_000_000
 # The causes that are about two places; of the others the first place counts.
 TWO_PLACES = {"SiteTwice", "EdgeTwice", "TwoActs"}
+NAME = re.compile(rf"[A-Za-z0-9_-]{{1,{LIMITS['MAX_NAME']}}}")
 # A number that is too long for TOML, although tomllib reads it.
 LONG_NUMBER = re.compile(r"[+-]?[0-9_]{19,}")
 # What stands in a plan for a truth value by mistake.
@@ -168,9 +170,9 @@ def places(plan, cause, number):
                 for key, value in table.items():
                     yield from wrong_kinds(plan, (*path, key), value, KEYS[kind][key][1])
         case "TooManySites":
-            yield plan.key(f"site 65 of {len(plan.data['site'])}", "site", 64)
+            yield plan.key(f"site {LIMITS['MAX_SITES'] + 1} of {len(plan.data['site'])}", "site", LIMITS["MAX_SITES"])
         case "TooManyEdges":
-            yield plan.key(f"edge 513 of {len(plan.data['edge'])}", "edge", 512)
+            yield plan.key(f"edge {LIMITS['MAX_EDGES'] + 1} of {len(plan.data['edge'])}", "edge", LIMITS["MAX_EDGES"])
         case "UnknownEnd" | "Loop" | "EdgeTwice" | "ValueTooLarge":
             yield from places_of_edge(plan, cause, number, "edge", number)
         case _:
@@ -212,7 +214,7 @@ def places_of_edge(plan, cause, number, *path):
             yield plan.value("these two are joined already", *path, "ends")
             yield plan.value("by this edge", "edge", first, "ends")
         case "ValueTooLarge":
-            yield plan.value(f"at most {LARGEST:,}", *path, "value")
+            yield plan.value(f"at most {LIMITS['MAX_NUMBER']:,}", *path, "value")
 
 
 def places_of_site(plan, cause, number, *path):
@@ -222,7 +224,7 @@ def places_of_site(plan, cause, number, *path):
     match cause:
         case "BadName":
             for kind, at, table in tables:
-                if not re.fullmatch("[A-Za-z0-9_-]{1,32}", table.get("name", "")):
+                if not NAME.fullmatch(table.get("name", "")):
                     yield plan.value(bad_name(kind, table.get("name", "")), *at, "name")
         case "SiteTwice":
             yield plan.value("this name is taken", *path, "name")
@@ -230,9 +232,9 @@ def places_of_site(plan, cause, number, *path):
         case "TooManyJobs":
             yield plan.key(f"it has {len(plan.data['site'][number]['jobs']):,}", *path, "jobs")
         case "TurnsTooLarge" | "ActTooLarge":
-            keys = ("turns",) if cause == "TurnsTooLarge" else ("add", "set")
-            found = [(*at, key) for at, job in jobs for key in keys if job.get(key, 0) > LARGEST]
-            yield from (plan.value(f"at most {LARGEST:,}", *it) for it in found)
+            keys, most = (("turns",), "MAX_TURNS") if cause == "TurnsTooLarge" else (("add", "set"), "MAX_NUMBER")
+            found = [(*at, key) for at, job in jobs for key in keys if job.get(key, 0) > LIMITS[most]]
+            yield from (plan.value(f"at most {LIMITS[most]:,}", *it) for it in found)
         case "TwoActs":
             for at in (at for at, job in jobs if "add" in job and "set" in job):
                 yield plan.key("add changes the value of each edge", *at, "add")

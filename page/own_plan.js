@@ -1,9 +1,7 @@
 // A plan that is made by a form and by taps: its sites, their meals, and which are neighbours.
+import { LIMITS } from "./plan_places.js";
 
 export const SHAPES = ["ring", "star", "path", "grid", "complete"];
-const MOST_SITES = 64;
-const MOST_EDGES = 512;
-const MOST_MEALS = 1000;
 
 const whole = (least, number, most) => Math.max(least, Math.min(Math.floor(Number(number) || 0), most));
 
@@ -37,9 +35,9 @@ const PAIRS = {
 
 // A plan of a shape, as { names, meals, edges }. A complete one has at most 32 sites: a plan has at most 512 edges.
 export function shaped(shape, count, meals) {
-  const sites = whole(1, count, shape === "complete" ? 32 : MOST_SITES);
+  const sites = whole(1, count, shape === "complete" ? 32 : LIMITS.MAX_SITES);
   const names = Array.from({ length: sites }, (_, it) => nameOfSite(it, sites));
-  return { names, meals: names.map(() => whole(0, meals, MOST_MEALS)), edges: PAIRS[shape](sites) };
+  return { names, meals: names.map(() => whole(0, meals, LIMITS.MAX_JOBS)), edges: PAIRS[shape](sites) };
 }
 
 // The plan of a state.
@@ -50,7 +48,7 @@ export function planOfState({ sites, edges }) {
 
 // The same with a site more, which has no neighbour yet, or null if there are 64.
 export function withSite({ names, meals, edges }) {
-  if (names.length >= MOST_SITES) return null;
+  if (names.length >= LIMITS.MAX_SITES) return null;
   let number = names.length;
   while (names.includes(nameOfSite(number, number + 1))) number += 1;
   return { names: [...names, nameOfSite(number, number + 1)], meals: [...meals, meals.at(-1) ?? 1], edges };
@@ -61,7 +59,7 @@ export function joined({ names, meals, edges }, one, other) {
   const isThis = ([low, high]) => (low === one && high === other) || (low === other && high === one);
   const rest = edges.filter((it) => !isThis(it));
   if (rest.length < edges.length) return { names, meals, edges: rest };
-  return edges.length < MOST_EDGES && one !== other ? { names, meals, edges: [...edges, [one, other]] } : null;
+  return edges.length < LIMITS.MAX_EDGES && one !== other ? { names, meals, edges: [...edges, [one, other]] } : null;
 }
 
 // The same without a site and its edges, or null if it is the last one.

@@ -3,6 +3,7 @@
 import { element, setOff } from "./marks.js";
 import { SHAPES, joined, planOfState, shaped, textOfPlan, withSite, withoutSite } from "./own_plan.js";
 import { placesOf } from "./places.js";
+import { LIMITS } from "./plan_places.js";
 import { refusalOf } from "./refusals.js";
 
 // The size of the picture of a plan that is made, and the radius of a site there.
@@ -15,6 +16,8 @@ export class PlanEditor {
   constructor(parts) {
     Object.assign(this, parts, { plan: null, chosen: null });
     this.shape.append(...SHAPES.map((it) => new Option(it, it)));
+    this.count.max = LIMITS.MAX_SITES;
+    this.meals.max = LIMITS.MAX_JOBS;
     this.make.addEventListener("click", () => this.put(shaped(this.shape.value, this.count.value, this.meals.value)));
     this.add.addEventListener("click", () => this.put(withSite(this.plan) ?? this.plan));
     this.removing.addEventListener("click", () => {
@@ -95,7 +98,7 @@ export class PlanEditor {
     if (chosen !== null && chosen !== site) {
       const next = joined(plan, chosen, site);
       if (next) this.put(next);
-      else this.note.textContent = "A plan has at most 512 edges.";
+      else this.note.textContent = `A plan has at most ${LIMITS.MAX_EDGES} edges.`;
       return;
     }
     this.chosen = chosen === site ? null : site;

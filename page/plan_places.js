@@ -27,11 +27,21 @@ const PLAN_KEYS = {
   }
 };
 // end
+// words limits, by tools/words
+export const LIMITS = {
+  "MAX_SITES": 64,
+  "MAX_EDGES": 512,
+  "MAX_TURNS": 1000000,
+  "MAX_NAME": 32,
+  "MAX_JOBS": 1000,
+  "MAX_NUMBER": 1000000
+};
+// end
 const NEEDED_KEYS = { site: "name", job: "name", edge: "ends" };
 const KINDS_SAID = {
   number: "a whole number from 0", text: "a text in quotes", truth: "true or false", array: "an array",
 };
-const AT_MOST = 1000000;
+const NAME = new RegExp(`^[\\w-]{1,${LIMITS.MAX_NAME}}$`);
 const NO_VALUE = "here a value is missing";
 
 const TOKENS = {
@@ -149,6 +159,7 @@ function kindOfValue(letter, raw) {
 
 const spot = ({ from, to }, said) => ({ from, to, said });
 const numberIn = (value) => Number(value.raw.replaceAll("_", ""));
+const grouped = (limit) => limit.toLocaleString("en");
 const textIn = (value) => value.raw.replace(/^["']|["']$/g, "");
 const pairOf = (table, key) => table.pairs.find((it) => it.key === key);
 
@@ -197,14 +208,14 @@ function badNames(tables, number) {
   const own = tables.filter(({ kind, place }) => ["site", "job"].includes(kind) && place === number);
   return own.flatMap((table) => {
     const value = pairOf(table, "name")?.value;
-    return value && !/^[\w-]{1,32}$/.test(textIn(value)) ? [spot(value, "this name")] : [];
+    return value && !NAME.test(textIn(value)) ? [spot(value, "this name")] : [];
   });
 }
 
-function largeNumbers(tables, number, kind, keys) {
+function largeNumbers(tables, number, kind, keys, most) {
   const own = tables.filter((it) => it.kind === kind && it.place === number);
   const values = own.flatMap((table) => keys.map((key) => pairOf(table, key)?.value).filter(Boolean));
-  return values.filter((value) => numberIn(value) > AT_MOST).map((value) => spot(value, "at most 1,000,000"));
+  return values.filter((value) => numberIn(value) > most).map((value) => spot(value, `at most ${grouped(most)}`));
 }
 
 // What a cause is about, the first to mend in front. `number` is that of its site or edge.
@@ -221,12 +232,12 @@ function spotsOf(cause, tables, number) {
     WrongKind: () => wrongKinds(tables),
     BadName: () => badNames(tables, number),
     SiteTwice: () => [spot(value("site", "name"), "this name is taken")],
-    TooManySites: () => [spot(of("site")[64], "site 65")],
-    TooManyEdges: () => [spot(of("edge")[512], "edge 513")],
-    TooManyJobs: () => [spot(pairOf(table("site"), "jobs"), "more than 1,000")],
-    TurnsTooLarge: () => largeNumbers(tables, number, "job", ["turns"]),
-    ActTooLarge: () => largeNumbers(tables, number, "job", ["add", "set"]),
-    ValueTooLarge: () => largeNumbers(tables, number, "edge", ["value"]),
+    TooManySites: () => [spot(of("site")[LIMITS.MAX_SITES], `site ${LIMITS.MAX_SITES + 1}`)],
+    TooManyEdges: () => [spot(of("edge")[LIMITS.MAX_EDGES], `edge ${LIMITS.MAX_EDGES + 1}`)],
+    TooManyJobs: () => [spot(pairOf(table("site"), "jobs"), `more than ${grouped(LIMITS.MAX_JOBS)}`)],
+    TurnsTooLarge: () => largeNumbers(tables, number, "job", ["turns"], LIMITS.MAX_TURNS),
+    ActTooLarge: () => largeNumbers(tables, number, "job", ["add", "set"], LIMITS.MAX_NUMBER),
+    ValueTooLarge: () => largeNumbers(tables, number, "edge", ["value"], LIMITS.MAX_NUMBER),
     UnknownEnd: () => value("edge", "ends").items.filter((it) => !names().includes(textIn(it)))
       .map((it) => spot(it, nearestOf(textIn(it), names()))),
     Loop: () => [spot(value("edge", "ends"), "an edge joins two different sites")],

@@ -136,6 +136,24 @@ static inline uint32_t dine_letter_edge(const uint8_t *letter) {
     return letter[9] | (uint32_t)letter[10] << 8 | (uint32_t)letter[11] << 16 | (uint32_t)letter[12] << 24;
 }
 
+/* The limits of a plan. */
+enum {
+    /* words limits, by tools/words */
+    /* The greatest number of sites of a plan. */
+    DINE_MAX_SITES = 64,
+    /* The greatest number of edges of a plan. */
+    DINE_MAX_EDGES = 512,
+    /* The greatest number of turns of a job. */
+    DINE_MAX_TURNS = 1000000,
+    /* The greatest number of bytes of a name. */
+    DINE_MAX_NAME = 32,
+    /* The greatest number of jobs of a site, and so of the meals that are due to an end of an edge. */
+    DINE_MAX_JOBS = 1000,
+    /* The greatest amount of an act, and the greatest value of an edge before the first meal. */
+    DINE_MAX_NUMBER = 1000000,
+    /* end */
+};
+
 typedef enum dine_kind {
     /* words kinds, by tools/words */
     /* Takes the next letter in the link to the site. */
@@ -178,7 +196,7 @@ int64_t dine_plan_version(dine_handle *plan);
 int64_t dine_plan_sites(dine_handle *plan);
 int64_t dine_plan_edges(dine_handle *plan);
 int64_t dine_plan_jobs(dine_handle *plan, uint32_t site);
-/* Returns the number of bytes of the name, at most 32; writes no more than out_len. */
+/* Returns the number of bytes of the name, at most DINE_MAX_NAME; writes no more than out_len. */
 int64_t dine_plan_name(dine_handle *plan, uint32_t site, uint8_t *out, size_t out_len);
 int64_t dine_plan_ends(dine_handle *plan, uint32_t edge, dine_ends *out);
 

@@ -97,9 +97,10 @@ def comment_of(lines):
 
 @cache
 def type_of(file, name):
-    """A type of the code, as its file declares it, without attributes of fields, or None if there is none of this name.
-    Of a trait only the ghost members count."""
-    above, it = r"((?:^///[^\n]*\n)*)(?:^#\[[^\n]*\n)*", rf"((?:enum|struct|trait) {name}\b.*?^\}}|type {name}\b[^;]*;)"
+    """A type or a constant of the code, as its file declares it, without attributes of fields, or None if there is none
+    of this name. Of a trait only the ghost members count."""
+    above = r"((?:^///[^\n]*\n)*)(?:^#\[[^\n]*\n)*"
+    it = rf"((?:enum|struct|trait) {name}\b.*?^\}}|(?:type|const) {name}\b[^;]*;)"
     text = text_of(file)
     found = re.search(rf"{above}^pub(?:\([a-z]+\))? {it}", text, re.S | re.M)
     if not found:
@@ -113,10 +114,11 @@ def type_of(file, name):
     return Definition(file, name, comment_of(found[1]), lines, uses_of(text), number=number)
 
 
-def declared(module):
-    """The type of a crate's code that a module of specs stands for, or None."""
-    crate, path, name = re.fullmatch(r"Rattle\.(\w+)\.specs\.declared\.(.*)\.(\w+)", module).groups()
-    return type_of(f"crates/{crate}/src/{path.replace('.', '/')}.rt", name)
+def declared(module, name):
+    """The type of a crate's code that a module of specs stands for, or the constant of this name if it has those of a
+    file; or None."""
+    crate, path, kind = re.fullmatch(r"Rattle\.(\w+)\.specs\.declared\.(.*)\.(\w+)", module).groups()
+    return type_of(f"crates/{crate}/src/{path.replace('.', '/')}.rt", name if kind == "TheConstants" else kind)
 
 
 @cache
@@ -154,7 +156,7 @@ def meant(modules, one, word, behind):
     """The definition that a name in a definition means, or None. `behind` is what is behind its dot."""
     source, name = one.uses.get(word, ("", ""))
     if ".declared." in source:
-        return declared(source.removesuffix(".TheVariants")) if source.startswith("Rattle.dine") else None
+        return declared(source.removesuffix(".TheVariants"), name) if source.startswith("Rattle.dine") else None
     module = module_of(modules, source)
     return module.meanings.get(behind if name is None else name) if module else None
 

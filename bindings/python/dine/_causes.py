@@ -1,5 +1,20 @@
-"""Why a text is no plan: the causes of PlanFault."""
+"""Why a text is no plan: the causes of PlanFault, and the limits of a plan."""
 from enum import IntEnum
+
+# words limits, by tools/words
+#: The greatest number of sites of a plan.
+MAX_SITES = 64
+#: The greatest number of edges of a plan.
+MAX_EDGES = 512
+#: The greatest number of turns of a job.
+MAX_TURNS = 1_000_000
+#: The greatest number of bytes of a name.
+MAX_NAME = 32
+#: The greatest number of jobs of a site, and so of the meals that are due to an end of an edge.
+MAX_JOBS = 1_000
+#: The greatest amount of an act, and the greatest value of an edge before the first meal.
+MAX_NUMBER = 1_000_000
+# end
 
 
 class Cause(IntEnum):

@@ -15,7 +15,7 @@ from operator import index
 from typing import Any, Hashable, Iterable, NamedTuple, Sequence, TypeVar
 
 from . import _calls, _picture
-from ._causes import Cause
+from ._causes import MAX_NAME, Cause
 from ._seen import Seen
 
 _HERE = os.path.dirname(os.path.abspath(__file__))
@@ -333,8 +333,8 @@ class Plan(_Owner):
         return list(self._shape()[0])
 
     def _name(self, site: int) -> str:
-        name = (c_uint8 * 32)()
-        size = self._call(_LIB.dine_plan_name, site, name, 32)
+        name = (c_uint8 * MAX_NAME)()
+        size = self._call(_LIB.dine_plan_name, site, name, MAX_NAME)
         return bytes(name[:size]).decode()
 
     @property

@@ -14,11 +14,11 @@ from collections import deque
 from typing import Any, Callable, Iterable, Iterator, MutableMapping, NamedTuple
 
 from ._builder import PlanBuilder
-from ._causes import Cause
+from ._causes import MAX_EDGES, MAX_JOBS, MAX_NAME, MAX_SITES, Cause
 from ._core import DineError, Event, Kind, Plan, Site, World, edge_of
 
 #: The meals that a site has at most. Once a site has eaten them, all sites are opened anew.
-MEALS = 1000
+MEALS = MAX_JOBS
 
 
 class TableClosed(Exception):
@@ -86,11 +86,11 @@ class Table:
 
         Raises ``DineError`` with the cause if the name is none or is another worker's, or if there are 64 workers.
         """
-        if not re.fullmatch("[A-Za-z0-9_-]{1,32}", name):
+        if not re.fullmatch(f"[A-Za-z0-9_-]{{1,{MAX_NAME}}}", name):
             raise _refuse(Cause.BadName, "site", len(self.workers), name)
         if name in self.workers:
             raise _refuse(Cause.SiteTwice, "site", len(self.workers), name)
-        if len(self.workers) == 64:
+        if len(self.workers) == MAX_SITES:
             raise _refuse(Cause.TooManySites, "site", len(self.workers), name)
         self.workers[name] = state
         return name
@@ -108,7 +108,7 @@ class Table:
             cause = Cause.Loop
         elif any({one, other} == {a, b} for a, b, _ in self.edges):
             cause = Cause.EdgeTwice
-        elif len(self.edges) == 512:
+        elif len(self.edges) == MAX_EDGES:
             cause = Cause.TooManyEdges
         if cause is not None:
             raise _refuse(cause, "edge", len(self.edges), one, other)

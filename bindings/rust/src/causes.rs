@@ -1,4 +1,19 @@
-//! Why a text is no plan: the causes of `PlanFault`.
+//! Why a text is no plan: the causes of `PlanFault`, and the limits of a plan.
+
+// words limits, by tools/words
+/// The greatest number of sites of a plan.
+pub const MAX_SITES: u32 = 64;
+/// The greatest number of edges of a plan.
+pub const MAX_EDGES: u32 = 512;
+/// The greatest number of turns of a job.
+pub const MAX_TURNS: u32 = 1_000_000;
+/// The greatest number of bytes of a name.
+pub const MAX_NAME: u32 = 32;
+/// The greatest number of jobs of a site, and so of the meals that are due to an end of an edge.
+pub const MAX_JOBS: u32 = 1_000;
+/// The greatest amount of an act, and the greatest value of an edge before the first meal.
+pub const MAX_NUMBER: u32 = 1_000_000;
+// end
 
 /// Why a text is no plan. The number of a cause is that of `docs/FORMAT.md`.
 #[derive(Clone, Copy, Debug, PartialEq, Eq, Hash)]

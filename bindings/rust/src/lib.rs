@@ -30,7 +30,7 @@ use std::cell::UnsafeCell;
 use std::fmt;
 
 pub use builder::PlanBuilder;
-pub use causes::Cause;
+pub use causes::{Cause, MAX_EDGES, MAX_JOBS, MAX_NAME, MAX_NUMBER, MAX_SITES, MAX_TURNS};
 pub use open::{AsyncMeal, Closed, LockFuture, Meal, OpenTable, Stay};
 pub use run::{Done, Watch};
 pub use table::{EdgeId, Table, WorkerId};
@@ -421,7 +421,7 @@ impl Plan {
 
     /// Returns the name of a site.
     pub fn name(&self, site: u32) -> Result<String> {
-        let mut bytes = [0u8; 32];
+        let mut bytes = [0u8; MAX_NAME as usize];
         let len = answer(unsafe { sys::dine_plan_name(self.handle.get(), site, bytes.as_mut_ptr(), bytes.len()) })?;
         Ok(String::from_utf8_lossy(&bytes[..len as usize]).into_owned())
     }

@@ -3,13 +3,8 @@
 //! It is a value like any other. It refuses what cannot be part of a plan at the call that asks for it, so that `open`
 //! and `run` fail for want of memory only, or because an edge has a worker of another table.
 
-use crate::{Cause, Error, Plan, PlanBuilder, Position, Refusal, Result};
+use crate::{Cause, Error, Plan, PlanBuilder, Position, Refusal, Result, MAX_EDGES, MAX_JOBS, MAX_NAME, MAX_SITES};
 use std::sync::atomic::{AtomicU64, Ordering};
-
-// The most workers and edges of a plan, and the longest name.
-const WORKERS: usize = 64;
-const EDGES: usize = 512;
-const NAME: usize = 32;
 
 // What tells each worker, edge and open table of this process from all others.
 pub(crate) fn next_mark() -> u64 {
@@ -96,11 +91,11 @@ impl Graph {
 
     fn refusal_of_worker(&self, name: &str) -> Option<Cause> {
         let is_letter = |it: u8| it.is_ascii_alphanumeric() || it == b'_' || it == b'-';
-        if name.is_empty() || name.len() > NAME || !name.bytes().all(is_letter) {
+        if name.is_empty() || name.len() > MAX_NAME as usize || !name.bytes().all(is_letter) {
             Some(Cause::BadName)
         } else if self.names.iter().any(|it| it == name) {
             Some(Cause::SiteTwice)
-        } else if self.names.len() == WORKERS {
+        } else if self.names.len() == MAX_SITES as usize {
             Some(Cause::TooManySites)
         } else {
             None
@@ -112,7 +107,7 @@ impl Graph {
             Some(Cause::Loop)
         } else if self.between(one, other).is_some() {
             Some(Cause::EdgeTwice)
-        } else if self.ends.len() == EDGES {
+        } else if self.ends.len() == MAX_EDGES as usize {
             Some(Cause::TooManyEdges)
         } else {
             None
@@ -130,7 +125,7 @@ pub(crate) struct Manner {
 }
 
 /// The meals that a site of the library has at most. Once a site has eaten them, all sites are opened anew.
-pub(crate) const MEALS: u32 = 1000;
+pub(crate) const MEALS: u32 = MAX_JOBS;
 
 /// Workers and their edges, before they are opened or run.
 ///

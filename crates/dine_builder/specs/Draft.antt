@@ -1,8 +1,9 @@
 -- The draft of a plan: the sites, jobs and edges that were added so far.
-use Rattle.std.specs.Prelude.{ℕ, ◌-◌, min, Bool, true, false, nat_lt, nat_le, ◌&&◌, List, [], ◌∷◌, ◌++◌, map, length, slice_index_or, slice_set, if◌then◌else◌}
+use Rattle.std.specs.Prelude.{ℕ, ◌+◌, ◌-◌, min, Bool, true, false, nat_lt, nat_le, ◌&&◌, List, [], ◌∷◌, ◌++◌, map, length, slice_index_or, slice_set, if◌then◌else◌}
 use Rattle.std.specs.List.{range_with_len}
 use Rattle.dine_token.specs.declared.act.Act.{Act}
 use Rattle.dine_token.specs.declared.act.Act.TheVariants.{Add}
+use Rattle.dine_token.specs.declared.limits.TheConstants.{MAX_JOBS}
 use Rattle.dine_builder.specs.declared.drafts.DraftJob.{DraftJob}
 use Rattle.dine_draft.specs.declared.drafts.DraftEdge.{DraftEdge}
 
@@ -36,7 +37,7 @@ no_draft_edge = record { a = 0; b = 0; value = 0 }
 
 -- jobs 1 to n, or 1 to 1,001 if n is greater: more than 1,000 jobs are refused in either case
 abbrev pub plain_jobs : ℕ → List DraftJob
-plain_jobs n = map plain_job (range_with_len 1 (min n 1001))
+plain_jobs n = map plain_job (range_with_len 1 (min n (MAX_JOBS + 1)))
 
 -- the draft with one more site, which has n jobs
 abbrev pub with_site : List ℕ → ℕ → Draft → Draft

@@ -1,7 +1,8 @@
 //! Plans that a program builds: the sites, jobs and edges that it adds, and the plan of them.
-ghost use Rattle.std.specs.Prelude.{◌≡◌, ◌≢◌, ◌≤◌, Some, None, length, map};
+ghost use Rattle.std.specs.Prelude.{◌≡◌, ◌≢◌, ◌≤◌, ◌+◌, Some, None, length, map};
 ghost use Rattle.std.specs.Prelude.{IfOk, OnOk, OnErr, IfErr, IfSome, IsTrue, is_some};
 ghost use Rattle.std.specs.List.{range_with_len};
+ghost use Rattle.dine_token.specs.declared.limits.TheConstants.{MAX_JOBS};
 ghost use Rattle.dine_builder.specs.Draft.{empty_draft, plain_job, with_site, with_edge, has_edge, has_site};
 ghost use Rattle.dine_builder.specs.Draft.{edge_at, has_job, job_at, site_at, with_value, with_resigning, with_job};
 ghost use Rattle.dine_builder.specs.Draft.{with_turns, with_failure, with_act};
@@ -14,13 +15,13 @@ ghost use Rattle.dine_builder.specs.private.DraftFields.{seen_draft_site};
 
 use dine_draft::{Draft, DraftEdge, PlanFault};
 use dine_graph::{Job, JobName, Plan, Site};
-use dine_token::Act;
+use dine_token::{Act, MAX_JOBS};
 use std::alloc::{AllocError, Global};
 use std::marker::Model;
 
 // The greatest number of jobs that a draft stores for a site: one more than a site may have, so that `finish` refuses
 // it.
-const MAX_KEPT_JOBS: u32 = 1_001;
+const MAX_KEPT_JOBS: u32 = MAX_JOBS + 1;
 
 // A job of a draft. Its number, from 1, is its name.
 #[derive(Clone, Copy, Debug)]
@@ -312,7 +313,7 @@ fn job_of(draft: DraftJob) -> Job
 
 // Jobs 1 to `jobs`, as a new site has them.
 fn plain_jobs(alloc: Global, jobs: u32) -> Result<Vec<DraftJob>, AllocError>
-    requires { jobs ≤ 1001 }
+    requires { jobs ≤ MAX_JOBS + 1 }
     ensures { IfOk result (λ v. v.items ≡ map plain_job (range_with_len 1 jobs)) }
 {
     let mut plain = Vec::with_capacity(alloc, jobs as usize)?;

@@ -5,7 +5,7 @@ ghost use Rattle.dine_token.specs.Fork.{IsEnd, MayEat};
 ghost use Rattle.dine_token.specs.Values.{IsAct};
 
 use crate::asserts::{holds, same};
-use dine_token::{Act, Entry, Fork, Held, Meal, Period, Token};
+use dine_token::{Act, Entry, Fork, Held, MAX_JOBS, MAX_NUMBER, Meal, Period, Token};
 use std::alloc::Global;
 use std::process::Abort;
 
@@ -45,9 +45,9 @@ pub(crate) fn opened(
     value: u64,
 ) -> Fork {
     holds(rt, ends.0 < ends.1);
-    holds(rt, due.0 <= 1000);
-    holds(rt, due.1 <= 1000);
-    holds(rt, value <= 1_000_000);
+    holds(rt, due.0 <= MAX_JOBS);
+    holds(rt, due.1 <= MAX_JOBS);
+    holds(rt, value <= MAX_NUMBER);
     let fork = Fork::open(alloc, edge, ends.0, ends.1, due.0, due.1, value).expect(rt, "memory");
     same(rt, &fork.edge(), &edge);
     same(rt, &fork.ends(), &ends);
@@ -88,8 +88,8 @@ fn is_act(act: Act) -> bool
     ensures { result ≡ true → IsAct act }
 {
     match act {
-        Act::Add(amount) => amount <= 1_000_000,
-        Act::Set(amount) => amount <= 1_000_000,
+        Act::Add(amount) => amount <= MAX_NUMBER,
+        Act::Set(amount) => amount <= MAX_NUMBER,
     }
 }
 

@@ -3,7 +3,9 @@ use Rattle.std.specs.Prelude.{ℕ, ◌==◌, Bool, true, false, not, ◌&&◌, �
 use Rattle.std.specs.Option.{option_map_or, option_or}
 use Rattle.std.specs.List.{range_with_len, list_any}
 use Rattle.std.specs.Str.{bytes_eq}
+use Rattle.dine_token.specs.declared.limits.TheConstants.{MAX_JOBS, MAX_NUMBER}
 use Rattle.dine_token.specs.Values.{amount_of}
+use Rattle.dine_graph.specs.declared.limits.TheConstants.{MAX_EDGES, MAX_SITES, MAX_TURNS}
 use Rattle.dine_graph.specs.Plan.{SeenJob, SeenSite, is_name}
 use Rattle.dine_draft.specs.Draft.{SeenDraft, names_of, ends_of_edge}
 use Rattle.dine_draft.specs.declared.drafts.DraftEdge.{DraftEdge}
@@ -28,11 +30,11 @@ has_bad_name site = not (is_name site.name) || list_any is_unnamed site.jobs
 
 -- cause 10: the site has more than 1,000 jobs
 unfoldable pub has_many_jobs : SeenSite → Bool
-has_many_jobs site = nat_lt 1000 (length site.jobs)
+has_many_jobs site = nat_lt MAX_JOBS (length site.jobs)
 
 -- the job has turns above 1,000,000
 abbrev pub is_long : SeenJob → Bool
-is_long job = nat_lt 1000000 job.turns
+is_long job = nat_lt MAX_TURNS job.turns
 
 -- cause 11: a job of the site has turns above 1,000,000
 unfoldable pub has_many_turns : SeenSite → Bool
@@ -61,7 +63,7 @@ same_ends _ _ = false
 
 -- the job adds or sets more than 1,000,000
 abbrev pub is_large : SeenJob → Bool
-is_large job = nat_lt 1000000 (amount_of job.act)
+is_large job = nat_lt MAX_NUMBER (amount_of job.act)
 
 -- cause 18: a job of the site adds or sets more than 1,000,000
 unfoldable pub has_large_act : SeenSite → Bool
@@ -69,7 +71,7 @@ has_large_act site = list_any is_large site.jobs
 
 -- cause 19: the edge has a value above 1,000,000
 unfoldable pub has_large_value : DraftEdge → Bool
-has_large_value edge = nat_lt 1000000 edge.value
+has_large_value edge = nat_lt MAX_NUMBER edge.value
 
 -- the fault if the test holds
 abbrev pub on : Bool → PlanFault → Option PlanFault
@@ -81,7 +83,7 @@ site_refusals sites =
     option_map fault.BadName (position has_bad_name sites)
     ∷ option_map fault.SiteTwice (first_twice bytes_eq [] (names_of sites))
     ∷ on (length sites == 0) fault.NoSite
-    ∷ on (nat_lt 64 (length sites)) fault.TooManySites
+    ∷ on (nat_lt MAX_SITES (length sites)) fault.TooManySites
     ∷ option_map fault.TooManyJobs (position has_many_jobs sites)
     ∷ option_map fault.TurnsTooLarge (position has_many_turns sites)
     ∷ []
@@ -97,7 +99,7 @@ end_refusals n edges =
 unfoldable pub pair_refusals : List (Option (ℕ × ℕ)) → List (Option PlanFault)
 pair_refusals pairs =
     option_map fault.EdgeTwice (first_twice same_ends None pairs)
-    ∷ on (nat_lt 512 (length pairs)) fault.TooManyEdges
+    ∷ on (nat_lt MAX_EDGES (length pairs)) fault.TooManyEdges
     ∷ []
 
 -- causes 17 to 20, in what meals do to values and failed jobs to sites, each at the least position, in order

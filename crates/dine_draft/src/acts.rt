@@ -8,10 +8,7 @@ ghost use Rattle.dine_draft.specs.Refusals.{act_refusals, first_some, has_large_
 use crate::drafts::{Draft, DraftEdge};
 use crate::plan_fault::PlanFault;
 use dine_graph::{Job, Site};
-use dine_token::Act;
-
-// The greatest amount of an act, and the greatest value of an edge before the first meal.
-const MAX_AMOUNT: u64 = 1_000_000;
+use dine_token::{Act, MAX_NUMBER};
 
 /// Returns the first fault in the acts of jobs, the values of edges and the policies of sites.
 #[tactic(auto, unfolding(crate::specs::Refusals::act_refusals))]
@@ -53,7 +50,7 @@ fn is_large(job: &Job) -> bool
     ensures { result ≡ is_large (seen_job job.now) }
 {
     match job.act {
-        Act::Add(amount) | Act::Set(amount) => amount > MAX_AMOUNT,
+        Act::Add(amount) | Act::Set(amount) => amount > MAX_NUMBER,
     }
 }
 
@@ -68,5 +65,5 @@ fn first_large_value(edges: &[DraftEdge]) -> Option<usize>
 fn has_large_value(edge: &DraftEdge) -> bool
     ensures { result ≡ has_large_value edge.now }
 {
-    edge.value > MAX_AMOUNT
+    edge.value > MAX_NUMBER
 }

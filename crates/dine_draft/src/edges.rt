@@ -7,10 +7,8 @@ ghost use Rattle.dine_draft.specs.Refusals.{has_unknown_end, is_loop, same_ends}
 
 use crate::drafts::DraftEdge;
 use crate::plan_fault::PlanFault;
+use dine_graph::MAX_EDGES;
 use std::alloc::{AllocError, Global};
-
-// The greatest number of edges of a plan.
-const MAX_EDGES: usize = 512;
 
 /// Returns the first fault in the ends of edges between this number of sites.
 #[tactic(auto, unfolding(crate::specs::Refusals::end_refusals))]
@@ -84,7 +82,7 @@ pub(crate) fn first_pair_fault(pairs: &[(u32, u32)]) -> Option<PlanFault>
     if let Some(edge) = first_edge_twice(pairs) {
         return Some(PlanFault::EdgeTwice(edge as u32));
     }
-    if pairs.len() > MAX_EDGES {
+    if pairs.len() > MAX_EDGES as usize {
         return Some(PlanFault::TooManyEdges);
     }
     None

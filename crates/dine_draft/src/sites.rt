@@ -10,21 +10,10 @@ ghost use Rattle.dine_draft.specs.Refusals.{first_some, first_twice, has_bad_nam
 ghost use Rattle.dine_draft.specs.Refusals.{has_many_turns, is_long, is_unnamed, site_refusals};
 
 use crate::plan_fault::PlanFault;
-use dine_graph::{Job, JobName, Site};
+use dine_graph::{Job, JobName, MAX_NAME, MAX_SITES, MAX_TURNS, Site};
+use dine_token::MAX_JOBS;
 use std::alloc::{AllocError, Global};
 use std::collections::BTreeSet;
-
-// The greatest number of sites of a plan.
-const MAX_SITES: usize = 64;
-
-// The greatest number of jobs of a site.
-const MAX_JOBS: usize = 1_000;
-
-// The greatest number of turns of a job.
-const MAX_TURNS: u32 = 1_000_000;
-
-// The greatest number of bytes of a name.
-const MAX_NAME: usize = 32;
 
 /// Returns the first fault in the sites of a draft.
 #[tactic(auto, unfolding(crate::specs::Refusals::site_refusals))]
@@ -44,7 +33,7 @@ pub(crate) fn first_site_fault(
     if sites.is_empty() {
         return Ok(Some(PlanFault::NoSite));
     }
-    if sites.len() > MAX_SITES {
+    if sites.len() > MAX_SITES as usize {
         return Ok(Some(PlanFault::TooManySites));
     }
     if let Some(site) = first_with_many_jobs(sites) {
@@ -130,7 +119,7 @@ fn first_with_many_jobs(sites: &[Site]) -> Option<usize>
 fn has_many_jobs(site: &Site) -> bool
     ensures { result ≡ has_many_jobs (seen_site site.now) }
 {
-    site.jobs.len() > MAX_JOBS
+    site.jobs.len() > MAX_JOBS as usize
 }
 
 fn first_with_many_turns(sites: &[Site]) -> Option<usize>

@@ -3,7 +3,7 @@ use Rattle.std.proofs.Common.{◌≡◌, ℤ, Option, Some, sym, ap, subst}
 use Rattle.std_alloc.specs.declared.boxed.Box.{Box}
 use Rattle.std_alloc.specs.Box.{with_value}
 use Rattle.dine_ffi.specs.OwnSites.{SeenOwnSite}
-use Rattle.dine_ffi.specs.Things.{OnSiteKept, SiteCall}
+use Rattle.dine_ffi.specs.Things.{OnKind, SiteCall, kept_site}
 use Rattle.dine_ffi.specs.declared.thing.Kept.{Kept}
 use Rattle.dine_ffi.specs.declared.thing.Kept.TheVariants as kept
 use Rattle.dine_ffi.specs.declared.thing.Thing.{Thing}
@@ -16,4 +16,4 @@ pub on_site : (P : ℤ → SeenOwnSite → SeenOwnSite → Type 0) (r : ℤ) (ol
     → old ≡ Some thing → thing.kept ≡ kept.Site own → new ≡ Some changed → changed ≡ record { kept = kept.Site after } → P r own after → SiteCall P r old new
 on_site P r old new thing changed own after old_is own_is new_is after_is did =
     subst (λ (x : Option Thing). SiteCall P r x new) (sym old_is) (subst (SiteCall P r (Some thing)) (sym new_is)
-    (subst (λ (t : Thing). OnSiteKept P r thing.kept t.kept) (sym after_is) (subst (λ (k : Kept). OnSiteKept P r k (kept.Site after)) (sym own_is) did)))
+    (subst (λ (t : Thing). OnKind kept_site P r thing.kept t.kept) (sym after_is) (subst (λ (k : Kept). OnKind kept_site P r k (kept.Site after)) (sym own_is) did)))

@@ -4,6 +4,8 @@ use Rattle.std.specs.List.{list_any}
 use Rattle.std.specs.Str.{IsUtf8, bytes_eq}
 use Rattle.dine_token.specs.declared.act.Act.{Act}
 use Rattle.dine_token.specs.declared.act.Act.TheVariants as act
+use Rattle.dine_token.specs.declared.limits.TheConstants.{MAX_JOBS}
+use Rattle.dine_graph.specs.declared.limits.TheConstants.{MAX_EDGES, MAX_SITES}
 use Rattle.dine_graph.specs.Plan.{is_name}
 use Rattle.dine_draft.specs.declared.drafts.DraftEdge.{DraftEdge}
 use Rattle.dine_draft.specs.declared.plan_fault.PlanFault.{PlanFault}
@@ -31,8 +33,8 @@ abbrev pub refusal_of_site : List ℕ → ℕ → Draft → Option PlanFault
 refusal_of_site name n d =
     if not (is_name name) then Some (fault.BadName (length d.sites)) else
     if list_any (bytes_eq name) (names_in d) then Some (fault.SiteTwice (length d.sites)) else
-    if nat_le 64 (length d.sites) then Some fault.TooManySites else
-    if nat_lt 1000 n then Some (fault.TooManyJobs (length d.sites)) else None
+    if nat_le MAX_SITES (length d.sites) then Some fault.TooManySites else
+    if nat_lt MAX_JOBS n then Some (fault.TooManyJobs (length d.sites)) else None
 
 -- Why an edge between sites a and b is not added: one of them is not there; both are one; they have an edge; or there
 -- are 512 edges. The first of these is the cause, at the number that the edge would have.
@@ -41,7 +43,7 @@ refusal_of_edge a b d =
     if nat_le (length d.sites) a || nat_le (length d.sites) b then Some (fault.UnknownEnd (length d.edges)) else
     if a == b then Some (fault.Loop (length d.edges)) else
     if list_any (are_ends a b) (ends_in d) then Some (fault.EdgeTwice (length d.edges)) else
-    if nat_le 512 (length d.edges) then Some fault.TooManyEdges else None
+    if nat_le MAX_EDGES (length d.edges) then Some fault.TooManyEdges else None
 
 -- The site is refused for this cause. A name that is no UTF-8 is no name.
 abbrev pub IsSiteRefusedFor : List ℕ → ℕ → Draft → PlanFault → Type 0

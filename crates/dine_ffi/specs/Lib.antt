@@ -1,6 +1,5 @@
 pub mod Acts
 pub mod Answers
-pub mod BuilderCalls
 pub mod Builders
 pub mod Calls
 pub mod Events

@@ -1,13 +1,14 @@
 //! The calls of a builder of plans.
 ghost use Rattle.std.specs.Prelude.{◌≡◌, ◌≢◌, None, nat_le, true};
+ghost use Rattle.dine_token.specs.declared.limits.TheConstants.{MAX_NUMBER};
+ghost use Rattle.dine_graph.specs.declared.limits.TheConstants.{MAX_TURNS};
 ghost use Rattle.dine_builder.specs.Draft.{empty_draft, has_edge, has_job, has_site, with_act, with_failure};
 ghost use Rattle.dine_builder.specs.Draft.{with_resigning, with_turns, with_value};
 ghost use Rattle.dine_builder.specs.DraftPlan.{first_fault_of, plan_of_draft};
 ghost use Rattle.dine_draft.specs.declared.plan_fault.PlanFault.TheVariants as fault;
 ghost use Rattle.dine_ffi.specs.Answers.{IsDoneOr, IsOkOr, memory, open_already};
-ghost use Rattle.dine_ffi.specs.BuilderCalls.{BuilderCall, HoldsBuilder, OfBuilder, OnBuilder};
 ghost use Rattle.dine_ffi.specs.Builders.{AddsEdgeOrRefuses, AddsSiteOrRefuses, ChangesOrRefuses, IsNoPlan, act_of};
-ghost use Rattle.dine_ffi.specs.Things.{HoldsPlan, OfHeld};
+ghost use Rattle.dine_ffi.specs.Things.{BuilderCall, HoldsBuilder, HoldsPlan, OfBuilder, OfHeld, OnBuilder};
 
 use crate::handle::Handle;
 use crate::own_builder::OwnBuilder;
@@ -81,8 +82,8 @@ pub extern "C" fn dine_raw_plan_builder_value(
     edge: u32,
     value: u32,
 ) -> i64
-    ensures becomes { BuilderCall (λ result old new. ChangesOrRefuses (nat_le value 1000000) (fault.ValueTooLarge edge)
-        (has_edge edge old) (with_value edge value old) result old new) result
+    ensures becomes { BuilderCall (λ result old new. ChangesOrRefuses (nat_le value MAX_NUMBER)
+        (fault.ValueTooLarge edge) (has_edge edge old) (with_value edge value old) result old new) result
         handle.old.slot.held handle.new.slot.held }
 {
     let Some(mut thing) = handle.take(alloc) else {
@@ -122,8 +123,8 @@ pub extern "C" fn dine_raw_plan_builder_turns(
     k: u32,
     turns: u32,
 ) -> i64
-    ensures becomes { BuilderCall (λ result old new. ChangesOrRefuses (nat_le turns 1000000) (fault.TurnsTooLarge site)
-        (has_job site k old) (with_turns site k turns old) result old new) result
+    ensures becomes { BuilderCall (λ result old new. ChangesOrRefuses (nat_le turns MAX_TURNS)
+        (fault.TurnsTooLarge site) (has_job site k old) (with_turns site k turns old) result old new) result
         handle.old.slot.held handle.new.slot.held }
 {
     let Some(mut thing) = handle.take(alloc) else {
@@ -170,8 +171,8 @@ pub extern "C" fn dine_raw_plan_builder_act(
     sets: bool,
     amount: u32,
 ) -> i64
-    ensures becomes { BuilderCall (λ result old new. ChangesOrRefuses (nat_le amount 1000000) (fault.ActTooLarge site)
-        (has_job site k old) (with_act site k (act_of sets amount) old) result old new) result
+    ensures becomes { BuilderCall (λ result old new. ChangesOrRefuses (nat_le amount MAX_NUMBER)
+        (fault.ActTooLarge site) (has_job site k old) (with_act site k (act_of sets amount) old) result old new) result
         handle.old.slot.held handle.new.slot.held }
 {
     let Some(mut thing) = handle.take(alloc) else {

@@ -3,6 +3,8 @@ ghost use Rattle.std.specs.Prelude.{◌≡◌, ◌≢◌, ◌<◌, ◌||◌, IfE
 ghost use Rattle.std.specs.Prelude.{is_ok, nat_le, string_bytes, true, if◌then◌else◌};
 ghost use Rattle.std.specs.List.{list_any};
 ghost use Rattle.std.specs.Str.{bytes_eq};
+ghost use Rattle.dine_token.specs.declared.limits.TheConstants.{MAX_NUMBER};
+ghost use Rattle.dine_graph.specs.declared.limits.TheConstants.{MAX_EDGES, MAX_SITES, MAX_TURNS};
 ghost use Rattle.dine_graph.specs.Plan.{is_name, is_name_byte};
 ghost use Rattle.dine_builder.specs.Draft.{empty_draft, has_edge, has_job, has_site, with_act, with_edge};
 ghost use Rattle.dine_builder.specs.Draft.{with_failure, with_resigning, with_site, with_turns, with_value};
@@ -14,25 +16,13 @@ ghost use Rattle.dine_ffi.specs.Builders.{ends_in, names_in, refusal_of_edge, re
 use crate::status::{DONE, MEMORY, NO_SUCH, plan_status};
 use dine_builder::{Missing, PlanBuilder};
 use dine_draft::PlanFault;
-use dine_graph::{EdgeId, Plan, SiteId};
-use dine_token::Act;
+use dine_graph::{EdgeId, MAX_EDGES, MAX_NAME, MAX_SITES, MAX_TURNS, Plan, SiteId};
+use dine_token::{Act, MAX_JOBS, MAX_NUMBER};
 use std::alloc::{AllocError, Global};
 use std::marker::Model;
 
-// The greatest number of bytes of a name.
-const MAX_NAME: usize = 32;
-
-// The greatest number of sites of a plan.
-const MAX_SITES: u32 = 64;
-
-// The greatest number of edges of a plan.
-const MAX_EDGES: u32 = 512;
-
-// The greatest number of jobs of a site.
-const MAX_JOBS: u32 = 1_000;
-
-// The greatest number of turns of a job, amount of an act, and value of an edge.
-const MOST: u32 = 1_000_000;
+// `MAX_NUMBER`, with the type of an argument.
+const MOST: u32 = MAX_NUMBER as u32;
 
 /// A builder, with the names of its sites and the ends of its edges, which its calls check.
 #[derive(Drop)]
@@ -125,7 +115,7 @@ impl OwnBuilder {
 
     // Adds a site to the builder and its name to the names; or to neither.
     fn add_site(&mut self, alloc: Global, name: &str, jobs: u32) -> Result<SiteId, AllocError>
-        requires { length self.old.sites < 64 }
+        requires { length self.old.sites < MAX_SITES }
         ensures number { IfOk result (λ site. site.0 ≡ length self.old.sites) }
         ensures changed { OnOk result (self.new ≡ with_site name.now jobs self.old) }
         ensures refused { OnErr result (self.new ≡ self.old) }
@@ -184,7 +174,7 @@ impl OwnBuilder {
 
     // Adds an edge to the builder and its ends to the ends; or to neither.
     fn add_edge(&mut self, a: u32, b: u32) -> Result<EdgeId, AllocError>
-        requires { length self.old.edges < 512 }
+        requires { length self.old.edges < MAX_EDGES }
         ensures number { IfOk result (λ edge. edge.0 ≡ length self.old.edges) }
         ensures changed { OnOk result (self.new ≡ with_edge a b self.old) }
         ensures refused { OnErr result (self.new ≡ self.old) }
@@ -201,7 +191,7 @@ impl OwnBuilder {
 
     /// Sets the value of an edge before the first meal.
     pub(crate) fn value(&mut self, edge: u32, value: u32) -> i64
-        ensures { ChangesOrRefuses (nat_le value 1000000) (PlanFault.ValueTooLarge edge) (has_edge edge self.old)
+        ensures { ChangesOrRefuses (nat_le value MAX_NUMBER) (PlanFault.ValueTooLarge edge) (has_edge edge self.old)
             (with_value edge value self.old) result self.old self.new }
     {
         if value > MOST {
@@ -220,10 +210,10 @@ impl OwnBuilder {
 
     /// Sets the number of turns of job `k` of a site.
     pub(crate) fn turns(&mut self, site: u32, k: u32, turns: u32) -> i64
-        ensures { ChangesOrRefuses (nat_le turns 1000000) (PlanFault.TurnsTooLarge site) (has_job site k self.old)
+        ensures { ChangesOrRefuses (nat_le turns MAX_TURNS) (PlanFault.TurnsTooLarge site) (has_job site k self.old)
             (with_turns site k turns self.old) result self.old self.new }
     {
-        if turns > MOST {
+        if turns > MAX_TURNS {
             return plan_status(PlanFault::TurnsTooLarge(site));
         }
         status_of(self.builder.turns(SiteId(site), k, turns))
@@ -239,7 +229,7 @@ impl OwnBuilder {
 
     /// Sets what the meal of job `k` of a site does to the value of each edge of the site.
     pub(crate) fn act(&mut self, site: u32, k: u32, sets: bool, amount: u32) -> i64
-        ensures { ChangesOrRefuses (nat_le amount 1000000) (PlanFault.ActTooLarge site) (has_job site k self.old)
+        ensures { ChangesOrRefuses (nat_le amount MAX_NUMBER) (PlanFault.ActTooLarge site) (has_job site k self.old)
             (with_act site k (act_of sets amount) self.old) result self.old self.new }
     {
         if amount > MOST {

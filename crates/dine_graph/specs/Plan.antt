@@ -4,7 +4,9 @@ use Rattle.std.specs.Char.{is_ascii_alphanumeric}
 use Rattle.std.specs.List.{range_with_len, list_all}
 use Rattle.dine_token.specs.declared.act.Act.{Act}
 use Rattle.dine_token.specs.declared.act.Act.TheVariants.{Add}
+use Rattle.dine_token.specs.declared.limits.TheConstants.{MAX_JOBS, MAX_NUMBER}
 use Rattle.dine_token.specs.Values.{IsAct}
+use Rattle.dine_graph.specs.declared.limits.TheConstants.{MAX_EDGES, MAX_NAME, MAX_SITES, MAX_TURNS}
 
 -- a job: its name, its turns, whether it fails, and what its meal does to the value of each edge; `IsPlan` has the
 -- limits
@@ -118,7 +120,7 @@ is_name_byte b = is_ascii_alphanumeric b || (b == 95) || (b == 45)
 
 -- a name has 1 to 32 bytes, each one of those
 abbrev pub is_name : List ℕ → Bool
-is_name bytes = nat_le 1 (length bytes) && nat_le (length bytes) 32 && list_all is_name_byte bytes
+is_name bytes = nat_le 1 (length bytes) && nat_le (length bytes) MAX_NAME && list_all is_name_byte bytes
 
 -- What is true of every plan: its limits, a name of its own for each site, and edges between two sites, no two of them
 -- the same.
@@ -126,10 +128,10 @@ pub record IsPlan (p : SeenPlan) : Type 0 where
   pub first_version : 1 ≤ p.version
   pub last_version : p.version ≤ 2
   pub has_site : 1 ≤ site_count p
-  pub few_sites : site_count p ≤ 64
-  pub few_edges : edge_count p ≤ 512
-  pub few_jobs : (s : ℕ) → s < site_count p → job_count p s ≤ 1000
-  pub few_turns : (s k : ℕ) → s < site_count p → 1 ≤ k → k ≤ job_count p s → (job_of p s k).turns ≤ 1000000
+  pub few_sites : site_count p ≤ MAX_SITES
+  pub few_edges : edge_count p ≤ MAX_EDGES
+  pub few_jobs : (s : ℕ) → s < site_count p → job_count p s ≤ MAX_JOBS
+  pub few_turns : (s k : ℕ) → s < site_count p → 1 ≤ k → k ≤ job_count p s → (job_of p s k).turns ≤ MAX_TURNS
   pub small_acts : (s k : ℕ) → s < site_count p → 1 ≤ k → k ≤ job_count p s → IsAct (job_of p s k).act
   pub named : (s : ℕ) → s < site_count p → IsTrue (is_name (name_of p s))
   pub jobs_named : (s k : ℕ) → s < site_count p → 1 ≤ k → k ≤ job_count p s → IsTrue (is_name (job_of p s k).name)
@@ -138,4 +140,4 @@ pub record IsPlan (p : SeenPlan) : Type 0 where
   pub within : (e : ℕ) → e < edge_count p → hi_of p e < site_count p
   pub edges_differ : (e f : ℕ) → e < f → f < edge_count p → ends_of p e ≢ ends_of p f
   pub valued : length p.values ≡ edge_count p
-  pub small_values : (e : ℕ) → e < edge_count p → value_of p e ≤ 1000000
+  pub small_values : (e : ℕ) → e < edge_count p → value_of p e ≤ MAX_NUMBER

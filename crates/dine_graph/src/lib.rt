@@ -4,10 +4,12 @@
 mod dots;
 mod ids;
 mod job_name;
+mod limits;
 mod lookups;
 mod places;
 mod plans;
 
 pub use ids::{EdgeId, EdgeIds, SiteId, SiteIds};
 pub use job_name::JobName;
+pub use limits::{MAX_EDGES, MAX_NAME, MAX_SITES, MAX_TURNS};
 pub use plans::{Job, Plan, Site};

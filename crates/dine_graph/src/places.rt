@@ -3,6 +3,7 @@ ghost use Rattle.std.specs.Prelude.{◌≡◌, ◌==◌, ℕ, ◌<◌, ◌≤◌
 ghost use Rattle.std.specs.Prelude.{slice_index_or, slice_get, Some, IfOk};
 ghost use Rattle.std.specs.List.{list_any};
 ghost use Rattle.std.specs.declared.alloc.Global.{Global as GlobalAlloc};
+ghost use Rattle.dine_graph.specs.declared.limits.TheConstants.{MAX_EDGES, MAX_SITES};
 ghost use Rattle.dine_graph.specs.Plan.{is_one_of, positions_at};
 
 use std::alloc::{AllocError, Global};
@@ -13,8 +14,8 @@ pub(crate) fn lists_at(
     sites: usize,
     ends: &[(u32, u32)],
 ) -> Result<Vec<Vec<u32>>, AllocError>
-    requires few_sites { sites ≤ 64 }
-    requires few_edges { length ends.now ≤ 512 }
+    requires few_sites { sites ≤ MAX_SITES }
+    requires few_edges { length ends.now ≤ MAX_EDGES }
     ensures len { IfOk result (λ v. vec_len v ≡ sites) }
     ensures lists { IfOk result (λ v. (s : ℕ) (d : Vec ℕ GlobalAlloc) → s < sites
         → (slice_index_or v.items s d).items ≡ positions_at ends.now s) }
@@ -28,7 +29,7 @@ pub(crate) fn lists_at(
 
 // The edges that have a site as an end, ascending.
 fn list_at(alloc: Global, ends: &[(u32, u32)], site: u32) -> Result<Vec<u32>, AllocError>
-    requires { length ends.now ≤ 512 }
+    requires { length ends.now ≤ MAX_EDGES }
     ensures { IfOk result (λ v. v.items ≡ positions_at ends.now site) }
 {
     let mut list = Vec::new(alloc);
@@ -53,7 +54,7 @@ pub(crate) fn places_in(
     ends: &[(u32, u32)],
     lists: &[Vec<u32>],
 ) -> Result<Vec<(u32, u32)>, AllocError>
-    requires few_edges { length ends.now ≤ 512 }
+    requires few_edges { length ends.now ≤ MAX_EDGES }
     requires low { (e : ℕ) → e < length ends.now → (slice_index_or ends.now e (0, 0)).0 < length lists.now }
     requires high { (e : ℕ) → e < length ends.now → (slice_index_or ends.now e (0, 0)).1 < length lists.now }
     requires lists { (s : ℕ) (d : Vec ℕ GlobalAlloc) → s < length lists.now
@@ -77,7 +78,7 @@ pub(crate) fn places_in(
 
 // The place of an edge in a list.
 fn place_in(list: &[u32], edge: u32) -> u32
-    requires few { length list.now ≤ 512 }
+    requires few { length list.now ≤ MAX_EDGES }
     requires has { list_any (λ x. x == edge) list.now ≡ true }
     ensures { slice_get list.now result ≡ Some edge }
 {

@@ -5,7 +5,7 @@ use crate::job::Job;
 use crate::table::Table;
 use crate::ticket::{Ticket, open_ticket};
 use crossbeam_channel::Sender;
-use dine_graph::{Plan, SiteId};
+use dine_graph::{MAX_SITES, Plan, SiteId};
 use dine_link::Doorbell;
 use dine_site::JobFault;
 use std::alloc::{AllocError, Global};
@@ -236,7 +236,7 @@ impl<K: Drop, O: Drop> Executor<K, O> {
     pub fn stop<R: Wait>(&self, rt: &R, alloc: Global) -> Result<Vec<(SiteId, K)>, AllocError> {
         self.close(rt);
         let mut left = Vec::new(alloc);
-        for (site, queue) in (0..64u32).zip(self.shared.queues.iter()) {
+        for (site, queue) in (0..MAX_SITES).zip(self.shared.queues.iter()) {
             for _ in rt.forever() {
                 left.reserve(1)?;
                 let next = queue.lock(rt).tasks.pop_front();

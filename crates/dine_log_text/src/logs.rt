@@ -1,5 +1,6 @@
 //! The text of a world.
 ghost use Rattle.std.specs.Prelude.{◌≡◌, ◌+◌, ◌≤◌, ◌∷◌, ◌++◌, Bool, List, codes, string_bytes, IfOk, OnOk};
+ghost use Rattle.dine_token.specs.declared.limits.TheConstants.{MAX_JOBS};
 ghost use Rattle.dine_token.specs.declared.log_entry.Entry.TheVariants.{Move};
 ghost use Rattle.dine_token.specs.Periods.{meals_in};
 ghost use Rattle.std.specs.Fmt.{decimal};
@@ -116,7 +117,7 @@ fn push_each_meal(
     is_first: bool,
     period: Period,
 ) -> Result<(), AllocError>
-    requires { period.first + period.count ≤ 1001 }
+    requires { period.first + period.count ≤ MAX_JOBS + 1 }
     ensures { OnOk result (string_bytes text.new
         ≡ string_bytes text.old ++ entries_text (name_of plan.now) (separator is_first) (meals_in period)) }
 {
@@ -138,7 +139,7 @@ fn push_meals(
     is_first: bool,
     period: Period,
 ) -> Result<(), AllocError>
-    requires bound { period.first + period.count ≤ 1001 }
+    requires bound { period.first + period.count ≤ MAX_JOBS + 1 }
     requires texts { texts.now ≡ texts_of plan.now }
     ensures { OnOk result (string_bytes text.new
         ≡ string_bytes text.old ++ entries_text (name_of plan.now) (separator is_first) (meals_in period)) }
@@ -159,7 +160,7 @@ fn push_moved(
     is_first: bool,
     period: Period,
 ) -> Result<(), AllocError>
-    requires bound { period.first + period.count ≤ 1001 }
+    requires bound { period.first + period.count ≤ MAX_JOBS + 1 }
     requires texts { texts.now ≡ texts_of plan.now }
     ensures { OnOk result (string_bytes text.new
         ≡ string_bytes text.old

@@ -3,7 +3,9 @@
 ghost use Rattle.std.specs.Prelude.{◌≡◌, ◌≢◌, ◌<◌, ◌≤◌, ◌+◌, ◌*◌, ◌↔◌, ℕ, Bool, List, [], ◌∷◌, ◌++◌, None, Option};
 ghost use Rattle.std.specs.Prelude.{Some, false, length, map, slice_get, true};
 ghost use Rattle.std.specs.List.{list_any};
+ghost use Rattle.dine_graph.specs.declared.limits.TheConstants.{MAX_EDGES, MAX_SITES};
 ghost use Rattle.dine_graph.specs.Plan.{IsPlan, SeenPlan, edge_count, hi_of, job_count, lo_of, site_count};
+ghost use Rattle.dine_token.specs.declared.limits.TheConstants.{MAX_JOBS};
 ghost use Rattle.dine_token.specs.Fork.{SeenFork};
 ghost use Rattle.dine_token.specs.Lawful.{IsLawful};
 ghost use Rattle.dine_token.specs.Log.{is_dirty};
@@ -397,7 +399,8 @@ pub fn whole_runs_are_bounded()
         → (whole_run plan choices).events ≡ effects_of (whole_run plan choices).world }
     ensures bounded { (plan : SeenPlan) (choices : List ℕ) → IsPlan plan
         → (whole_run plan choices).events ≤ bound_of plan }
-    ensures small { (plan : SeenPlan) → IsPlan plan → bound_of plan ≤ 3 * (64 * 1000) + 512 * 8008 }
+    ensures small { (plan : SeenPlan) → IsPlan plan → bound_of plan ≤ 3 * (MAX_SITES * MAX_JOBS)
+        + MAX_EDGES * (8 * MAX_JOBS + 8) }
 {}
 
 /// A whole run goes on from where the choices end: it ends in the world to which the first enabled events lead from

@@ -30,6 +30,7 @@ use dine_link::ChannelLane;
 use dine_plan::{Plan, read_plan};
 use dine_run::{Gathered, SiteOut, order_of, run};
 use dine_site_core::{Event, EventKind};
+use dine_token::MAX_JOBS;
 use std::alloc::{AllocError, Global};
 use std::sync::Wait;
 use std::thread::Threads;
@@ -44,7 +45,7 @@ const RING: &str = "version = 1\n\
     [[edge]]\nends = [\"cyd\", \"dan\"]\n[[edge]]\nends = [\"dan\", \"ann\"]\n";
 
 // What each account has at the start, as many units as a site can send.
-const START: u32 = 1000;
+const START: u32 = MAX_JOBS;
 
 // What each account has at the end, by site, and all of them together.
 #[derive(Drop)]

@@ -1,5 +1,6 @@
 //! A diner: at each meal it sends one unit from its own account to the account of the next site.
 ghost use Rattle.std.specs.Prelude.{◌≡◌, ◌+◌, ◌≤◌, [], length, IfOk};
+ghost use Rattle.dine_token.specs.declared.limits.TheConstants.{MAX_JOBS};
 ghost use Rattle.dine_run.specs.CallLogs.{no_calls};
 
 use dine_run::{CallLog, Diner, JobFault};
@@ -12,13 +13,13 @@ pub struct Teller {
     pub log: CallLog,
     pub sent: u32,
     ghost one_each: { sent ≡ length log.calls },
-    ghost few: { sent + log.room ≤ 1000 },
+    ghost few: { sent + log.room ≤ MAX_JOBS },
 }
 
 impl Teller {
     /// Returns a teller that sent nothing, with capacity for a number of jobs.
     pub fn open(alloc: Global, jobs: u32) -> Result<Teller, AllocError>
-        requires { jobs ≤ 1000 }
+        requires { jobs ≤ MAX_JOBS }
         ensures { IfOk result (λ teller. teller.log ≡ no_calls jobs) }
     {
         let log = CallLog::open(alloc, jobs)?;

@@ -1,6 +1,7 @@
 // Gathers what the sites left: their link ends by edge, their forks by edge, and the rest by site.
 ghost use Rattle.std.specs.Prelude.{◌≡◌, ◌<◌, ◌≤◌, ◌*◌, ◌^◌, All, IfOk, Some, None, is_some, length, map, position};
 ghost use Rattle.std.specs.Prelude.{replicate, slice_get, vec_len, vec_capacity};
+ghost use Rattle.dine_graph.specs.declared.limits.TheConstants.{MAX_SITES};
 ghost use Rattle.dine_graph.specs.Plan.{edge_count, edges_of, site_count};
 ghost use Rattle.dine_threads.specs.private.Collecting.{AreForksOf, AreJoined, AreLinksLeft, AreWholeEnds, IsRoomFor};
 ghost use Rattle.dine_threads.specs.private.Collecting.{IsTakenToClose, forks_left, forks_found, in_slots, links_left};
@@ -118,7 +119,7 @@ pub fn make_room<S: Drop, P: Drop>(alloc: Global, plan: &Plan) -> Result<Room<S,
 
 /// Returns the lowest site with a fault.
 pub fn first_fault<L: Lane, D: Diner>(ends: &[SiteEnd<L, D>]) -> Option<u32>
-    requires few { length ends.now ≤ 64 }
+    requires few { length ends.now ≤ MAX_SITES }
     ensures { result ≡ position (λ end. is_some end.fault) ends.now }
 {
     match ends.iter().position(|end| end.fault.is_some()) {

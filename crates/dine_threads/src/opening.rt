@@ -1,6 +1,7 @@
 // The links and bells of a run, before any thread starts.
 ghost use Rattle.std.specs.Prelude.{◌≡◌, ℕ, ◌<◌, ◌≤◌, ◌+◌, ◌++◌, [], ◌∷◌, All, IfOk, None, OnOk, Some};
 ghost use Rattle.std.specs.Prelude.{length, map, set, slice_get, slice_index_or, vec_len, vec_capacity};
+ghost use Rattle.dine_graph.specs.declared.limits.TheConstants.{MAX_EDGES};
 ghost use Rattle.dine_graph.specs.Plan.{IsPlan, edge_count, edges_of, site_count};
 ghost use Rattle.dine_threads.specs.private.Openings.{AreNewPorts, ArePlaced, AreRingersOf, HasNoPort};
 ghost use Rattle.dine_threads.specs.private.Openings.{HaveNoPort, HavePorts, bells_of, rows_of};
@@ -42,7 +43,7 @@ fn place_lists<P: Drop, Q: Drop>(
 
 // Opens a bell with a ringer for each place of a site, in order, and one more.
 fn open_bell(alloc: Global, degree: u32) -> Result<(Vec<Ringer>, Ringer, Bell), AllocError>
-    requires { degree ≤ 512 }
+    requires { degree ≤ MAX_EDGES }
     ensures ringers { IfOk result
         (λ opened. opened.0.items ≡ map (new_ringer opened.2.identity) (range_with_len 0 degree)) }
     ensures bell { IfOk result (λ opened. opened.2 ≡ new_bell opened.2.identity (degree + 1)) }

@@ -2,6 +2,7 @@
 ghost use Rattle.std.specs.Prelude.{[], ◌≡◌, ◌≢◌, ◌<◌, ◌≤◌, All, IfNone, IfOk, IfSome, OnOk, Some};
 ghost use Rattle.std.specs.Prelude.{length, map, slice_get, vec_len, vec_capacity};
 ghost use Rattle.std.specs.List.{AllZip};
+ghost use Rattle.dine_graph.specs.declared.limits.TheConstants.{MAX_SITES};
 ghost use Rattle.dine_graph.specs.Plan.{SeenPlan, job_count, site_count};
 ghost use Rattle.dine_site_core.specs.Standing.{IsFresh, IsFreshFor};
 ghost use Rattle.dine_site.specs.Diners.{HasEaten, ObeysFailures};
@@ -179,7 +180,7 @@ where
     L::Rx: 'static,
     requires ready { All (IsReady L.Lane D.Diner) starts.items }
     requires room { vec_len starts ≤ vec_capacity children.old }
-    requires few { vec_len starts ≤ 64 }
+    requires few { vec_len starts ≤ MAX_SITES }
     requires none { vec_len children.old ≡ 0 }
     ensures few { vec_len children.new ≤ vec_len starts }
     ensures all { IfNone result (map given_to children.new.items ≡ starts.items) }

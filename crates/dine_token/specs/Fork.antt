@@ -3,6 +3,7 @@ use Rattle.std.specs.Prelude.{◌≡◌, ◌==◌, ◌⊎◌, ℕ, ◌+◌, ◌*
 use Rattle.dine_token.specs.declared.log_entry.Entry.{Entry}
 use Rattle.dine_token.specs.declared.log_entry.Entry.TheVariants.{Meal, Move}
 use Rattle.dine_token.specs.declared.act.Act.{Act}
+use Rattle.dine_token.specs.declared.limits.TheConstants.{MAX_JOBS, MAX_NUMBER}
 use Rattle.dine_token.specs.Values.{value_after_act}
 use Rattle.dine_token.specs.Log.{is_dirty, location_of, meals_of}
 use Rattle.dine_token.specs.Lawful.{IsLawful, due_at}
@@ -48,10 +49,10 @@ IsDirty fork = is_dirty fork.log ≡ true
 -- lawful, and the value is at most 1,000,000 times one more than the meals of the log.
 pub record IsFork (fork : SeenFork) : Type 0 where
   pub ordered : fork.ends.0 < fork.ends.1
-  pub lower_due : fork.due.0 ≤ 1000
-  pub higher_due : fork.due.1 ≤ 1000
+  pub lower_due : fork.due.0 ≤ MAX_JOBS
+  pub higher_due : fork.due.1 ≤ MAX_JOBS
   pub lawful : IsLawful fork.ends fork.due fork.log
-  pub bounded : fork.value ≤ 1000000 * (meals_of fork.ends.0 fork.log + meals_of fork.ends.1 fork.log + 1)
+  pub bounded : fork.value ≤ MAX_NUMBER * (meals_of fork.ends.0 fork.log + meals_of fork.ends.1 fork.log + 1)
 
 -- The fork may be sent to an end: it is dirty, that end is the one where it is not, and has meals left. This says
 -- nothing of the token, nor of which site eats. [paper: release rule]

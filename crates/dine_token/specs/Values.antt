@@ -2,6 +2,7 @@
 use Rattle.std.specs.Prelude.{ℕ, ◌+◌, ◌≤◌}
 use Rattle.dine_token.specs.declared.act.Act.{Act}
 use Rattle.dine_token.specs.declared.act.Act.TheVariants.{Add, Set}
+use Rattle.dine_token.specs.declared.limits.TheConstants.{MAX_NUMBER}
 
 -- the amount of an act
 abbrev pub amount_of : Act → ℕ
@@ -10,7 +11,7 @@ amount_of (Set amount) = amount
 
 -- an act as a meal may do it: its amount is at most 1,000,000
 abbrev pub IsAct : Act → Type 0
-IsAct act = amount_of act ≤ 1000000
+IsAct act = amount_of act ≤ MAX_NUMBER
 
 -- a value after an act: Add adds its amount, and Set makes the amount the value
 abbrev pub value_after_act : Act → ℕ → ℕ

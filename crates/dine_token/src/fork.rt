@@ -1,5 +1,6 @@
 //! The fork of an edge, with the log of its meals and its moves.
 ghost use Rattle.std.specs.Prelude.{◌≡◌, ◌<◌, ◌≤◌, ◌+◌, [], length, take, Some, slice_get, IfOk};
+ghost use Rattle.dine_token.specs.declared.limits.TheConstants.{MAX_JOBS, MAX_NUMBER};
 ghost use Rattle.dine_token.specs.Log.{is_dirty, meals_of, moves_of};
 ghost use Rattle.dine_token.specs.Lawful.{due_at};
 ghost use Rattle.dine_token.specs.Periods.{periods_of, entries_of};
@@ -67,9 +68,9 @@ impl Fork {
         value: u64,
     ) -> Result<Fork, AllocError>
         requires ordered { lower < higher }
-        requires lower_due { lower_due ≤ 1000 }
-        requires higher_due { higher_due ≤ 1000 }
-        requires value { value ≤ 1000000 }
+        requires lower_due { lower_due ≤ MAX_JOBS }
+        requires higher_due { higher_due ≤ MAX_JOBS }
+        requires value { value ≤ MAX_NUMBER }
         ensures { IfOk result
             (λ fork. fork
             ≡ record { edge = edge; ends = (lower, higher); due = (lower_due, higher_due); log = []; value = value }) }
@@ -117,7 +118,7 @@ impl Fork {
     pub fn due_of(&self, end: u32) -> u32
         requires { IsEnd self.now end }
         ensures due { result ≡ due_at self.now.ends self.now.due end }
-        ensures bound { result ≤ 1000 }
+        ensures bound { result ≤ MAX_JOBS }
     {
         if end == self.contents.lower {
             self.contents.lower_due
@@ -246,7 +247,7 @@ impl Fork {
     pub fn period(&self, i: u32) -> Period
         requires { i < length (periods_of self.now.ends.0 self.now.log) }
         ensures period { slice_get (periods_of self.now.ends.0 self.now.log) i ≡ Some result }
-        ensures bound { result.first + result.count ≤ 1001 }
+        ensures bound { result.first + result.count ≤ MAX_JOBS + 1 }
         ensures used { 0 < i → i + 1 < length (periods_of self.now.ends.0 self.now.log) → 1 ≤ result.count }
     {
         self.contents.periods[i as usize]

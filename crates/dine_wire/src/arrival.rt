@@ -1,6 +1,7 @@
 //! The fork that arrives.
 ghost use Rattle.std.specs.Prelude.{◌≡◌, ℕ, ◌+◌, ◌*◌, ◌<◌, ◌≤◌, ◌^◌, [], IfErr, IfOk, MatchOption, true};
 ghost use Rattle.std.specs.Prelude.{vec_capacity};
+ghost use Rattle.dine_token.specs.declared.limits.TheConstants.{MAX_JOBS, MAX_NUMBER};
 ghost use Rattle.dine_token.specs.Fork.{IsFork, MayEat, after_meal, location};
 ghost use Rattle.dine_token.specs.Log.{moves_of};
 ghost use Rattle.dine_token.specs.Values.{IsAct, value_after_act};
@@ -148,8 +149,8 @@ fn value_of(plan: &Plan, site: u32, first: u32, meals: u32, value: u64) -> u64
     requires site { site < site_count plan.now }
     requires from_one { 1 ≤ first }
     requires within { first + meals ≤ job_count plan.now site + 1 }
-    requires few { first + meals ≤ 1001 }
-    requires bounded { value + 1000000 * meals < 2 ^ 64 }
+    requires few { first + meals ≤ MAX_JOBS + 1 }
+    requires bounded { value + MAX_NUMBER * meals < 2 ^ 64 }
     ensures { result ≡ after_meals plan.now site first meals value }
 {
     let mut value = value;

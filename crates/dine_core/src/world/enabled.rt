@@ -1,5 +1,6 @@
 // The enabled events, in the fixed order: by site, and within a site by kind.
 ghost use Rattle.std.specs.Prelude.{◌≡◌, ◌<◌, ◌≤◌, filter, length, slice_get};
+ghost use Rattle.dine_graph.specs.declared.limits.TheConstants.{MAX_SITES};
 
 use super::{World, acts};
 use dine_rules::{Event, EventKind};
@@ -58,7 +59,7 @@ impl World {
     // The number of sites.
     pub(super) fn site_count(&self) -> u32
         ensures count { result ≡ length self.now.sites }
-        ensures few { result ≤ 64 }
+        ensures few { result ≤ MAX_SITES }
     {
         self.sites.len() as u32
     }

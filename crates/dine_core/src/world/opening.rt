@@ -2,6 +2,8 @@
 ghost use Rattle.std.specs.Prelude.{◌≡◌, ◌<◌, ◌≤◌, ◌+◌, ◌*◌, Bool, List, [], All, IfOk, Vec, false, map, length};
 ghost use Rattle.std.specs.Prelude.{option_and_then, replicate, slice_get, sum};
 ghost use Rattle.std.specs.List.{range_with_len};
+ghost use Rattle.dine_token.specs.declared.limits.TheConstants.{MAX_JOBS};
+ghost use Rattle.dine_graph.specs.declared.limits.TheConstants.{MAX_EDGES, MAX_SITES};
 ghost use Rattle.dine_graph.specs.Plan.{edge_count, edges_of, job_count, job_of, site_count};
 ghost use Rattle.dine_rules.specs.Bound.{bound_of, meals_due};
 ghost use Rattle.dine_rules.specs.declared.letters.Letter.{Letter};
@@ -180,7 +182,7 @@ pub(super) fn bound_of(plan: &Plan) -> u64
 // The number of jobs of all sites.
 fn jobs_of_sites(plan: &Plan) -> u64
     ensures total { result ≡ sum (map (job_count plan.now) (range_with_len 0 (site_count plan.now))) }
-    ensures few { result ≤ 1000 * 64 }
+    ensures few { result ≤ MAX_JOBS * MAX_SITES }
 {
     let mut total = 0;
     for site in 0..plan.sites() {
@@ -193,7 +195,7 @@ fn jobs_of_sites(plan: &Plan) -> u64
 fn letters_of_edges(plan: &Plan) -> u64
     ensures total { result
         ≡ sum (map (λ edge. 4 * meals_due plan.now edge + 8) (range_with_len 0 (edge_count plan.now))) }
-    ensures few { result ≤ 8008 * 512 }
+    ensures few { result ≤ (8 * MAX_JOBS + 8) * MAX_EDGES }
 {
     let mut total = 0;
     for edge in 0..plan.edges() {

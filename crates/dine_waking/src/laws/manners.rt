@@ -2,6 +2,7 @@
 //! nothing: its contract is the law.
 
 ghost use Rattle.std.specs.Prelude.{◌≡◌, ◌<◌, ◌≤◌, ◌+◌, ◌*◌, ◌⊎◌, ℕ, Bool, false, length, true};
+ghost use Rattle.dine_token.specs.declared.limits.TheConstants.{MAX_JOBS};
 ghost use Rattle.dine_graph.specs.Plan.{IsPlan, SeenPlan, edges_of, site_count};
 ghost use Rattle.dine_rules.specs.Local.{neighbour_at};
 ghost use Rattle.dine_rules.specs.declared.letters.Kind4.TheVariants as kind;
@@ -155,7 +156,7 @@ pub fn a_check_is_good_for_one_meal()
 /// is eager, the lower one may begin all its k meals and have the ring left, and the fork. If the higher site has yet
 /// to ring, the same may happen although the lower one is polite. For k up to 1000 the two sites are a plan.
 pub fn unheard_neighbours_wait_for_all_meals()
-    ensures is_plan { (k : ℕ) → k ≤ 1000 → IsPlan (two_sites k 1) }
+    ensures is_plan { (k : ℕ) → k ≤ MAX_JOBS → IsPlan (two_sites k 1) }
     ensures rung { (k : ℕ) → LeadsBySteps (two_sites k 1) 3 (start_run (two_sites k 1)) (rung_run 0) }
     ensures has_rung { (k : ℕ) → IsAsked (two_sites k 1) (rung_run 0) 0 0
         × HasRungForAll (two_sites k 1) (rung_run 0) 0 0 }

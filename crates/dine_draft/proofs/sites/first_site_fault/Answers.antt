@@ -26,26 +26,26 @@ pub returns-then-is_empty : goal.returns-then-is_empty
 unfolding site_refusals
 returns-then-is_empty c = rw (← c.in_default.ensures, ← c.in_ok-site.ensures, c.in_default-2.is, length-map c.args.sites.now seen_site, ← c.if-is_empty.ensures) refl
 
-pub returns-then-sites-gt-MAX_SITES : goal.returns-then-sites-gt-MAX_SITES
+pub returns-then-sites : goal.returns-then-sites
 unfolding site_refusals
-returns-then-sites-gt-MAX_SITES c =
-    let many = lt-ltb 64 (length c.args.sites.now) c.if-sites-gt-MAX_SITES.true in
+returns-then-sites c =
+    let many = lt-ltb 64 (length c.args.sites.now) c.if-sites.true in
     rw (← c.in_default.ensures, ← c.in_ok-site.ensures, c.in_default-2.is, length-map c.args.sites.now seen_site, ← c.if-is_empty.ensures, many) refl
 
 pub returns-in-Some-first_with_many_jobs : goal.returns-in-Some-first_with_many_jobs
 unfolding site_refusals
 returns-in-Some-first_with_many_jobs c =
-    let few = le-ltb 64 (length c.args.sites.now) c.if-sites-gt-MAX_SITES.false in
+    let few = le-ltb 64 (length c.args.sites.now) c.if-sites.false in
     rw (← c.in_default.ensures, ← c.in_ok-site.ensures, c.in_default-2.is, ← c.in-Some-first_with_many_jobs.ensures, length-map c.args.sites.now seen_site, ← c.if-is_empty.ensures, few) refl
 
 pub returns-in-Some-first_with_many_turns : goal.returns-in-Some-first_with_many_turns
 unfolding site_refusals
 returns-in-Some-first_with_many_turns c =
-    let few = le-ltb 64 (length c.args.sites.now) c.if-sites-gt-MAX_SITES.false in
+    let few = le-ltb 64 (length c.args.sites.now) c.if-sites.false in
     rw (← c.in_default.ensures, ← c.in_ok-site.ensures, c.in_default-2.is, ← c.in_default-first_with_many_jobs.ensures, ← c.in-Some-first_with_many_turns.ensures, length-map c.args.sites.now seen_site, ← c.if-is_empty.ensures, few) refl
 
 pub returns : goal.returns
 unfolding site_refusals
 returns c =
-    let few = le-ltb 64 (length c.args.sites.now) c.if-sites-gt-MAX_SITES.false in
+    let few = le-ltb 64 (length c.args.sites.now) c.if-sites.false in
     rw (← c.in_default.ensures, ← c.in_ok-site.ensures, c.in_default-2.is, ← c.in_default-first_with_many_jobs.ensures, ← c.in_default-first_with_many_turns.ensures, length-map c.args.sites.now seen_site, ← c.if-is_empty.ensures, few) refl
