@@ -54,7 +54,7 @@ FILES = {"crates/dine_ffi/src/thing.rt": "contents.rt", "crates/dine_ffi/specs/T
 GENERATED = {r"docs/article\.html": "tools/article", r"docs/index\.html": "./show --export docs/index.html",
              r"bindings/c/nokit/module\..*": "tools/bindings --write", r".*\.wasm(?:\.built)?": "tools/wasm",
              r"programs/(?!README).*": "tools/programs --write"}
-PATCHES = ["wip/web-kinds.patch"]
+PATCHES = []
 LEFT = re.compile("|".join([*GENERATED, r"CHANGELOG\.md", r"wip/(?!web-kinds).*", r".*\.(?:png|svg)"]))
 TABLE = """## Names
 
