@@ -12,7 +12,7 @@ from lib.process import answer_of
 pytestmark = pytest.mark.early
 GUIDE, HEADLINE = "docs/DEFINITIONS.md", "crates/dine_threads/specs/Headline.antt"
 JOINED, RUN = "crates/dine_rules/specs/JoinedEnds.antt", "crates/dine_threads/src/threads.rt"
-CALL, NO_LINE = "crates/dine_core/README.md", "no file that is linked above a fence has its line "
+CALL, NO_LINE = "crates/dine_world/README.md", "no file that is linked above a fence has its line "
 # What the two tools read.
 READ = ["tools", "*.md", "*/*.md", "crates/*/README.md", "crates/*/src", "crates/*/specs"]
 
@@ -66,9 +66,9 @@ def test_line_that_moved(planted):
 
 @pytest.mark.slow
 @pytest.mark.parametrize(("path", "old", "new", "said"), [
-    ("crates/dine_site_tests/src/journals.rt", r"world\.step\(\*event\)", "world.step(event)",
+    ("crates/dine_site_thread_tests/src/journals.rt", r"world\.step\(\*event\)", "world.step(event)",
      f"{NO_LINE}'        same(rt, &world.step(*event), &Ok(()));'"),
-    ("crates/dine_core/src/world.rt", "^    pub fn step", r"\g<0>s", f"{NO_LINE}'pub fn step("),
+    ("crates/dine_world/src/world.rt", "^    pub fn step", r"\g<0>s", f"{NO_LINE}'pub fn step("),
     (CALL, "^    for event", "  for event", f"{NO_LINE}'  for event in events {{'"),
     (CALL, r"\]\(src/world\.rt\) has", "](src/lib.rt) has", f"{NO_LINE}'/// Does the event.'"),
     (CALL, "^## A call$", "## Calls", "it shows no call with its contract, in two fences below '## A call'"),
@@ -95,7 +95,7 @@ def test_export(tmp_path):
 @pytest.mark.slow
 @pytest.mark.parametrize(("path", "old", "new", "cited"), [
     (HEADLINE, "^use", "use Rattle.dine_rules.proofs.links.Coming.{any}\n\\g<0>", "links.Coming of dine_rules"),
-    ("crates/dine_site_core/src/site/marked.rt", "dine_set::proofs::shared::", "dine_set::proofs::",
+    ("crates/dine_site/src/site/marked.rt", "dine_set::proofs::shared::", "dine_set::proofs::",
      "MarksOf.marks_laws of dine_set"),
 ])
 def test_citation_across_crates(planted, path, old, new, cited):

@@ -48,7 +48,7 @@ const keyOf = ({ kind, letter }) => (kind === "take" ? `take ${letter}` : kind);
 const counted = (count, one, many = `${one}s`) => `${count} ${count === 1 ? one : many}`;
 
 // The model, with what the page says in words of it, and what has happened.
-class Told extends Model {
+class WordedModel extends Model {
   constructor({ sites, edges }) {
     super(sites.map((it) => ({ ...it, jobs: it.acts.length })), edges);
     Object.assign(this, { done: [], choices: [], phases: [this.sites.map(({ phase }) => phase)], right: 0, asked: 0 });
@@ -498,7 +498,7 @@ export class Held {
 }
 
 // What the page says of a state in one text, by the model.
-Object.assign(Told.prototype, {
+Object.assign(WordedModel.prototype, {
   label() {
     if (this.sites.length > MANY.sites) {
       const count = (phase) => this.sites.filter((it) => it.phase === phase).length;
@@ -616,7 +616,7 @@ Object.assign(Told.prototype, {
 
 // The same model again, so that what is asked of one is not counted twice.
 function copyOf(model) {
-  return Object.assign(Object.create(Told.prototype), structuredClone({ ...model }));
+  return Object.assign(Object.create(WordedModel.prototype), structuredClone({ ...model }));
 }
 
 // Of so many texts of a state one is altered.
@@ -655,7 +655,7 @@ function isPassed(model, said) {
 export function held(runs, isAltered = () => false) {
   const result = { states: 0, texts: 0, faults: [], altered: 0, unfound: [] };
   for (const { plan, states } of runs) {
-    const model = new Told(plan);
+    const model = new WordedModel(plan);
     for (const { done, said } of states) {
       done.forEach(({ words }) => model.go(words));
       model.choices.push(...done.map(({ number }) => number));

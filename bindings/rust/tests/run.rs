@@ -172,8 +172,8 @@ fn a_run_that_is_stopped_begins_no_job_any_more() {
 #[test]
 fn a_watch_is_told_of_each_meal_before_and_after_its_job() {
     #[derive(Default)]
-    struct Told(Mutex<Vec<String>>);
-    impl dine::Watch for Told {
+    struct Calls(Mutex<Vec<String>>);
+    impl dine::Watch for Calls {
         fn begins(&self, worker: &str, k: u64, _waited: Duration) {
             self.0.lock().unwrap().push(format!("{worker} {k} begins"));
         }
@@ -181,7 +181,7 @@ fn a_watch_is_told_of_each_meal_before_and_after_its_job() {
             self.0.lock().unwrap().push(format!("{worker} {k} ends {ok}"));
         }
     }
-    let told = Told::default();
+    let told = Calls::default();
     let mut table = Table::new();
     table.worker("a").unwrap();
     let job = |meal: &mut NoMeal<'_>| {

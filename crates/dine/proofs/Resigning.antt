@@ -8,10 +8,10 @@ use Rattle.dine_rules.specs.declared.events.EventKind.{EventKind}
 use Rattle.dine_rules.specs.Journals.{IsJournal, journal_of, outcomes_in}
 use Rattle.dine_rules.specs.Local.{LocalState}
 use Rattle.dine_rules.specs.Shown.{ResignAsPlanned}
-use Rattle.dine_site.specs.declared.diner.Call.{Call}
-use Rattle.dine_site.specs.declared.manner.Manner.{Manner}
-use Rattle.dine_site.specs.Diners.{HasLastFailed, StopsAtFailed, shows_quit}
-use Rattle.dine_site.proofs.shared.lists.Seen.{there_is}
+use Rattle.dine_site_thread.specs.declared.diner.Call.{Call}
+use Rattle.dine_site_thread.specs.declared.manner.Manner.{Manner}
+use Rattle.dine_site_thread.specs.Diners.{HasLastFailed, StopsAtFailed, shows_quit}
+use Rattle.dine_site_thread.proofs.shared.lists.Seen.{there_is}
 use Rattle.dine_threads.specs.declared.gathered.Gathered.{Gathered}
 use Rattle.dine_threads.specs.declared.gathered.SiteOut.{SiteOut}
 use Rattle.dine_threads.specs.Gathered.{IsFinishedOut, IsOutOf}

@@ -11,18 +11,18 @@ use Rattle.dine_token.specs.Lawful.{count_from}
 use Rattle.dine_rules.specs.JoinedEnds.{IsWholeLog}
 use Rattle.dine_rules.specs.Values.{value_by_amounts, has_no_set, value_by}
 use Rattle.dine_link.specs.Links.{SeenLink}
-use Rattle.dine_site.specs.declared.diner.Call.{Call}
+use Rattle.dine_site_thread.specs.declared.diner.Call.{Call}
 use Rattle.dine_threads.specs.declared.gathered.SiteOut.{SiteOut}
-use Rattle.dine_site.specs.Diners.{HasLastFailed, StopsAtFailed, meals_called, failed_in, shows_quit}
-use Rattle.dine_site.specs.declared.manner.Manner.{Manner}
-use Rattle.dine_site.specs.declared.manner.Manner.TheVariants.{Greedy}
+use Rattle.dine_site_thread.specs.Diners.{HasLastFailed, StopsAtFailed, meals_called, failed_in, shows_quit}
+use Rattle.dine_site_thread.specs.declared.manner.Manner.{Manner}
+use Rattle.dine_site_thread.specs.declared.manner.Manner.TheVariants.{Greedy}
 use Rattle.dine_threads.specs.Gathered.{AreFinishedOuts, AreOutsOf, IsFinishedOut, IsOutOf}
 use Rattle.dine_threads.specs.Headline.{IsHeadline}
 use Rattle.dine_threads.specs.declared.tables.EdgeRow.{EdgeRow}
 use Rattle.dine_threads.specs.declared.tables.SiteRow.{SiteRow}
 use Rattle.dine_threads.specs.Tables.{due_edge_rows, due_site_rows, edge_row}
 use Rattle.dine_threads.proofs.shared.all_sites.Rows.{edge_rows-due, headline_gathered, site_rows-due, values-due}
-use Rattle.dine_site.proofs.shared.lists.Seen.{there_is}
+use Rattle.dine_site_thread.proofs.shared.lists.Seen.{there_is}
 use Rattle.dine.specs.PlanDiners.{IsDinerOf, SeenPlanDiner, fails_of, first_word, fits_marks, mark_of, plan_diner}
 use Rattle.dine.specs.Tables.{IsEdgeRowOf, IsSiteRowOf}
 use Rattle.dine.specs.Run.{HasDueRows, diner_of, diners_of, done_to_failed, failing_by_site, failing_jobs, meals_at}

@@ -1,8 +1,8 @@
 -- The diner of a plan, as contracts see it, without the turns of its jobs.
 use Rattle.std.specs.Prelude.{◌≡◌, ℕ, Bool, false, not, List, ◌∷◌, map, slice_index_or, if◌then◌else◌}
 use Rattle.dine_graph.specs.Plan.{SeenPlan, SeenJob, jobs_of}
-use Rattle.dine_site.specs.declared.diner.Call.{Call}
-use Rattle.dine_site.specs.declared.diner.Diner as diners
+use Rattle.dine_site_thread.specs.declared.diner.Call.{Call}
+use Rattle.dine_site_thread.specs.declared.diner.Diner as diners
 
 -- a diner of a plan: its site; the calls so far, in order; for each job of its site, whether it fails; the number of
 -- further calls that it has capacity for; and the word after the turns so far

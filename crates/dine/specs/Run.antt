@@ -7,7 +7,7 @@ use Rattle.dine_token.specs.Fork.{SeenFork}
 use Rattle.dine_threads.specs.declared.causes.RunCause.TheVariants as run_cause
 use Rattle.dine_threads.specs.declared.gathered.RunFault.{RunFault}
 use Rattle.dine_threads.specs.declared.gathered.SiteOut.{SiteOut}
-use Rattle.dine_site.specs.declared.manner.Manner.TheVariants.{Greedy}
+use Rattle.dine_site_thread.specs.declared.manner.Manner.TheVariants.{Greedy}
 use Rattle.dine_threads.specs.Headline.{FaultIs}
 use Rattle.dine_threads.specs.Tables.{AreDueValues, IsGatheredOf, edge_rows, site_rows, due_edge_rows, due_site_rows}
 use Rattle.dine.specs.PlanDiners.{SeenPlanDiner, fails_of, first_word, plan_diner}

@@ -7,7 +7,7 @@ ghost use Rattle.dine_rules.specs.Shown.{plan_shown};
 ghost use Rattle.dine_rules.specs.Values.{has_no_set};
 ghost use Rattle.dine_rules.specs.World.{Reaches, WorldState};
 ghost use Rattle.dine_rules.specs.declared.events.Event.{Event};
-ghost use Rattle.dine_site.specs.declared.manner.Manner.{Manner};
+ghost use Rattle.dine_site_thread.specs.declared.manner.Manner.{Manner};
 ghost use Rattle.dine_threads.specs.declared.gathered.Gathered.{Gathered};
 ghost use Rattle.dine_threads.specs.Runs.{IsRun};
 ghost use Rattle.dine.specs.PlanDiners.{SeenPlanDiner, plan_diner};

@@ -4,7 +4,7 @@ ghost use Rattle.dine_graph.specs.Plan.{site_count, job_count};
 ghost use Rattle.dine.specs.PlanDiners.{IsDinerOf, fails_of, first_word, fits_marks, mark_of};
 
 use dine_graph::Plan;
-use dine_site::{Call, CallLog, Diner, JobFault};
+use dine_site_thread::{Call, CallLog, Diner, JobFault};
 use dine_token::Meal;
 use std::alloc::{AllocError, Global};
 use std::marker::Model;

@@ -14,10 +14,10 @@ mod waits;
 
 use anyhow::{Context, Result, bail};
 use dine::{PlanDiner, open_diners};
-use dine_core::World;
 use dine_link::{ChannelLane, Lane, RingLane};
 use dine_plan::{Plan, read_plan};
 use dine_run::{Manner, RunOptions, order_of, run_with};
+use dine_world::World;
 use overtakes::Overtakes;
 use std::alloc::Global;
 use std::env;

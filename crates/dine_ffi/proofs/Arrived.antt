@@ -25,10 +25,10 @@ use Rattle.dine_rules.proofs.shared.one_place.Owned.{own_is}
 use Rattle.dine_rules.proofs.shared.one_place.Placed.{IsPlaced, placed}
 use Rattle.dine_rules.proofs.shared.one_place.Sent.{meals_of-with_meals_other}
 use Rattle.dine_rules.proofs.shared.one_site.BreachLaw.{no_breach}
-use Rattle.dine_site_core.specs.declared.site.places.Place.{Place}
-use Rattle.dine_site_core.specs.Core.{kept_at as place_kept}
-use Rattle.dine_site_core.specs.Places.{is_held, neighbour_of, no_place, place_at}
-use Rattle.dine_site_core.proofs.shared.one_site.Eating.{slot_held}
+use Rattle.dine_site.specs.declared.site.places.Place.{Place}
+use Rattle.dine_site.specs.Core.{kept_at as place_kept}
+use Rattle.dine_site.specs.Places.{is_held, neighbour_of, no_place, place_at}
+use Rattle.dine_site.proofs.shared.one_site.Eating.{slot_held}
 use Rattle.dine_wire.specs.Arrivals.{CarriesOn, DoesNotArrive, IsOfPlan, carried_on}
 use Rattle.dine_wire.specs.Carried.{GoesOn, IsCarriedOn, fork_for_next}
 use Rattle.dine_wire.specs.Notes.{fork_note}

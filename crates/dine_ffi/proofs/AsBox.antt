@@ -6,16 +6,16 @@ use Rattle.std_alloc.proofs.BoxSteps.Form.{Bx}
 use Rattle.std_heap.specs.contracts.Global as Heap
 use Rattle.std_heap.specs.contracts.GlobalAllocator.TheImpl.{ghosts, dict}
 use Rattle.std_heap.proofs.Global.TheLaws as heap
-use Rattle.dine_ffi.specs.contracts.thing.Thing as Thing
-use Rattle.dine_ffi.proofs.thing.Thing.TheLaws as thing
+use Rattle.dine_ffi.specs.contracts.contents.Contents as Contents
+use Rattle.dine_ffi.proofs.contents.Contents.TheLaws as contents
 use Rattle.dine_slot.specs.contracts.parts.Parts as Parts
 use Rattle.dine_ffi.specs.contracts.slot.Slot as Full
 
 abbrev pub E : Bx
-E = record { row = Thing.the_row; laws = thing.the_row_laws; al = record { row = Heap.the_row; laws = heap.the_row_laws; g = ghosts; d = dict; drops = impl [] tnil dnil } }
+E = record { row = Contents.the_row; laws = contents.the_row_laws; al = record { row = Heap.the_row; laws = heap.the_row_laws; g = ghosts; d = dict; drops = impl [] tnil dnil } }
 
 abbrev pub FromParts : Slot 0
-FromParts = plain (λ _. Parts.the_row Thing.the_row Heap.the_row ghosts)
+FromParts = plain (λ _. Parts.the_row Contents.the_row Heap.the_row ghosts)
 
 abbrev pub FromSlot : Slot 0
 FromSlot = plain (λ _. Full.the_row)

@@ -10,5 +10,5 @@ pub mod OverFront
 pub mod PutBack
 pub mod Refused
 pub mod Standing
-pub mod Told
+pub mod Report
 pub mod Words

@@ -6,7 +6,7 @@ use Rattle.dine_graph.specs.Plan.{edges_of}
 use Rattle.dine_rules.specs.declared.breach.Breach.{Breach}
 use Rattle.dine_rules.specs.declared.letters.Letter.{Letter}
 use Rattle.dine_rules.specs.Local.{LocalState, edge_at}
-use Rattle.dine_site_core.specs.Standing.{ReportsBreach}
+use Rattle.dine_site.specs.Standing.{ReportsBreach}
 use Rattle.dine_wire.specs.Notes.{IsInBytes}
 use Rattle.dine_wire.specs.Runs.{IsNoLetter, bytes_in_run, is_of_run}
 use Rattle.dine_wire.specs.declared.note.Note.{Note}
@@ -14,7 +14,7 @@ use Rattle.dine_wire.specs.declared.wire_fault.WireFault.{WireFault}
 use Rattle.dine_wire.specs.declared.wire_fault.WireFault.TheVariants as fault
 use Rattle.dine_wire.proofs.shared.LettersOfRuns.{is_of_own}
 use Rattle.dine_ffi.specs.Answers.{IsDoneOr, IsRefused, breach_status, done, other_edge}
-use Rattle.dine_ffi.specs.OwnSites.{IsEdgeOfNone, SeenOwnSite, StandsFor, TakeRefuses, ToldRefuses, WordRefuses}
+use Rattle.dine_ffi.specs.OwnSites.{IsEdgeOfNone, SeenOwnSite, StandsFor, TakeRefuses, ReportRefuses, WordRefuses}
 
 -- ---- results
 
@@ -53,7 +53,7 @@ module _ (bytes : List ℕ) (note : Note) (own : SeenOwnSite) (read : bytes ≡ 
     here : i < length own.core.places
     here = omega (arith, within, is.core.degree, is.keeps.every_place)
 
-    pub place_refuses : (r : ℤ) → (i < length own.core.places → ToldRefuses i note.edge note.told r state own) → TakeRefuses bytes r state own
+    pub place_refuses : (r : ℤ) → (i < length own.core.places → ReportRefuses i note.edge note.report r state own) → TakeRefuses bytes r state own
     place_refuses r why = inr (note, note_fits, read, inr (i, record { within = here; edge = place }, why here))
 
     -- a letter other than a Fork

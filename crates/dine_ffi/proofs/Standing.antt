@@ -19,11 +19,11 @@ use Rattle.dine_rules.specs.Streams.{KeepsStreams}
 use Rattle.dine_rules.proofs.shared.links.Eaters.{start_eats_with_all, step_eats_with_all}
 use Rattle.dine_rules.proofs.shared.lists.Counting.{forks_in-append}
 use Rattle.dine_rules.proofs.shared.one_site.Site.{start_keeps}
-use Rattle.dine_site_core.specs.Core.{Refines, forks_in_hand}
-use Rattle.dine_site_core.specs.Places.{IsMealOf}
-use Rattle.dine_site_core.specs.Standing.{CorePuts, CoreStep, CoreSteps, all_places}
-use Rattle.dine_core.specs.WorldSites.{meal_of}
-use Rattle.dine_core.proofs.shared.all_sites.OpenedSites.{meal-taken, meal_is, within_of}
+use Rattle.dine_site.specs.Core.{Refines, forks_in_hand}
+use Rattle.dine_site.specs.Places.{IsMealOf}
+use Rattle.dine_site.specs.Standing.{CorePuts, CoreStep, CoreSteps, all_places}
+use Rattle.dine_world.specs.WorldSites.{meal_of}
+use Rattle.dine_world.proofs.shared.all_sites.OpenedSites.{meal-taken, meal_is, within_of}
 use Rattle.dine_wire.specs.Carried.{fork_for_next, kept_forks}
 use Rattle.dine_wire.proofs.shared.CarriedGrowth.{kept-append, last_is_kept, none_is_kept}
 use Rattle.dine_ffi.specs.Acts.{put_step as step_of_put}

@@ -10,10 +10,10 @@ use Rattle.dine_rules.specs.declared.letters.Letter.TheVariants.{Fork, Request, 
 use Rattle.dine_rules.specs.Letters.{forks_in}
 use Rattle.dine_rules.specs.Local.{is_eating}
 use Rattle.dine_rules.specs.Steps as step
-use Rattle.dine_site_core.specs.declared.site.places.Place.{Place}
-use Rattle.dine_site_core.specs.Core.{SeenCore}
-use Rattle.dine_site_core.specs.Places.{FitsPlace, IsMealOf, meals_in, neighbour_of, no_place, place_after_take, place_at, after_take}
-use Rattle.dine_site_core.specs.Standing.{CoreSteps}
+use Rattle.dine_site.specs.declared.site.places.Place.{Place}
+use Rattle.dine_site.specs.Core.{SeenCore}
+use Rattle.dine_site.specs.Places.{FitsPlace, IsMealOf, meals_in, neighbour_of, no_place, place_after_take, place_at, after_take}
+use Rattle.dine_site.specs.Standing.{CoreSteps}
 use Rattle.dine_ffi.specs.Answers.{done}
 use Rattle.dine_ffi.specs.OwnSites.{SeenOwnSite, SiteSteps}
 

@@ -6,6 +6,6 @@ pub mod Events
 pub mod OwnSites
 pub mod Shelves
 pub mod Refusals
-pub mod Things
+pub mod Contents
 pub mod Written
 pub mod private

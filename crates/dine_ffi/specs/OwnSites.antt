@@ -15,19 +15,19 @@ use Rattle.dine_rules.specs.Local.{LocalState, edge_at, is_eating, traffic_at}
 use Rattle.dine_rules.specs.Steps as step
 use Rattle.dine_rules.specs.Steps.{Step, after, may}
 use Rattle.dine_rules.specs.Streams.{KeepsStreams}
-use Rattle.dine_site_core.specs.Core.{SeenCore, Refines, forks_in_hand}
-use Rattle.dine_site_core.specs.Places.{IsMealOf}
-use Rattle.dine_site_core.specs.declared.site.places.ForkSlot.{ForkSlot}
-use Rattle.dine_site_core.specs.declared.site.places.ForkSlot.TheVariants as slot
-use Rattle.dine_site_core.specs.Standing.{CorePuts, CoreStep, CoreSteps, ForEachState, IsFreshFor, all_places}
-use Rattle.dine_core.specs.WorldSites.{meal_of}
+use Rattle.dine_site.specs.Core.{SeenCore, Refines, forks_in_hand}
+use Rattle.dine_site.specs.Places.{IsMealOf}
+use Rattle.dine_site.specs.declared.site.places.ForkSlot.{ForkSlot}
+use Rattle.dine_site.specs.declared.site.places.ForkSlot.TheVariants as slot
+use Rattle.dine_site.specs.Standing.{CorePuts, CoreStep, CoreSteps, ForEachState, IsFreshFor, all_places}
+use Rattle.dine_world.specs.WorldSites.{meal_of}
 use Rattle.dine_wire.specs.Carried.{ArrivesWith, GoesOn, fork_for_next}
 use Rattle.dine_wire.specs.Notes.{IsInBytes, fork_note}
 use Rattle.dine_wire.specs.Runs.{IsNoLetter, bytes_in_run, is_of_run}
 use Rattle.dine_wire.specs.declared.note.ForkNote.{ForkNote}
 use Rattle.dine_wire.specs.declared.note.Note.{Note}
-use Rattle.dine_wire.specs.declared.note.Told.{Told}
-use Rattle.dine_wire.specs.declared.note.Told.TheVariants as told
+use Rattle.dine_wire.specs.declared.note.Report.{Report}
+use Rattle.dine_wire.specs.declared.note.Report.TheVariants as report
 use Rattle.dine_wire.specs.declared.wire_fault.WireFault.{WireFault}
 use Rattle.dine_wire.specs.declared.wire_fault.WireFault.TheVariants as fault
 use Rattle.dine_ffi.specs.Answers.{IsDoneOr, IsOkOr, breach_status, eating, memory, no_such, not_now, other_edge, small, wire_status}
@@ -246,11 +246,11 @@ abbrev pub WordRefuses : ℕ → Letter → ℤ → LocalState → SeenOwnSite �
 WordRefuses i letter result state own = (breach : Breach) × (result ≡ breach_status breach) × (first_breach own.plan own.core.site state i letter ≡ Some breach)
 
 -- why what a letter of this edge reports is refused at place i, and what is returned
-abbrev pub ToldRefuses : ℕ → ℕ → Told → ℤ → LocalState → SeenOwnSite → Type 0
-ToldRefuses i edge (told.Fork fork) result state own = ForkRefuses i fork result state own
-ToldRefuses i edge told.Request result state own = WordRefuses i (letter.Request edge) result state own
-ToldRefuses i edge told.Done result state own = WordRefuses i letter.Done result state own
-ToldRefuses i edge told.Close result state own = WordRefuses i letter.Close result state own
+abbrev pub ReportRefuses : ℕ → ℕ → Report → ℤ → LocalState → SeenOwnSite → Type 0
+ReportRefuses i edge (report.Fork fork) result state own = ForkRefuses i fork result state own
+ReportRefuses i edge report.Request result state own = WordRefuses i (letter.Request edge) result state own
+ReportRefuses i edge report.Done result state own = WordRefuses i letter.Done result state own
+ReportRefuses i edge report.Close result state own = WordRefuses i letter.Close result state own
 
 -- no place of the site is of this edge
 abbrev pub IsEdgeOfNone : ℕ → SeenOwnSite → Type 0
@@ -268,7 +268,7 @@ abbrev pub TakeRefuses : List ℕ → ℤ → LocalState → SeenOwnSite → Typ
 TakeRefuses bytes result state own =
     ((f : WireFault) × (result ≡ wire_status f) × IsNoLetter own.run bytes f)
     ⊎ ((note : Note) × IsInBytes note × (bytes ≡ bytes_in_run own.run note)
-    × (((result ≡ other_edge) × IsEdgeOfNone note.edge own) ⊎ ((i : ℕ) × IsPlaceOf i note own × ToldRefuses i note.edge note.told result state own)))
+    × (((result ≡ other_edge) × IsEdgeOfNone note.edge own) ⊎ ((i : ℕ) × IsPlaceOf i note own × ReportRefuses i note.edge note.report result state own)))
 
 -- A call with the bytes of a letter takes the letter that arrives with them at one of the places, and returns 0. Or it
 -- refuses, and a site that represents a state is as it was. If the bytes begin with the number of another run, it

@@ -7,8 +7,8 @@ use Rattle.dine_rules.specs.declared.breach.Breach.TheVariants as breach
 use Rattle.dine_rules.specs.declared.letters.Letter.{Letter}
 use Rattle.dine_rules.specs.declared.letters.Letter.TheVariants.{Fork, Request, Done, Close}
 use Rattle.dine_rules.specs.Steps.{opened_fork}
-use Rattle.dine_site_core.specs.Core.{SeenCore}
-use Rattle.dine_site_core.specs.Places.{is_held, neighbour_of, place_at}
+use Rattle.dine_site.specs.Core.{SeenCore}
+use Rattle.dine_site.specs.Places.{is_held, neighbour_of, place_at}
 use Rattle.dine_wire.specs.Arrivals.{DoesNotArrive}
 use Rattle.dine_wire.specs.declared.note.ForkNote.{ForkNote}
 use Rattle.dine_wire.specs.declared.wire_fault.WireFault.{WireFault}

@@ -3,14 +3,14 @@ ghost use Rattle.std.specs.Prelude.{◌≡◌, ◌<◌, MatchOption, MatchResult
 ghost use Rattle.dine_rules.specs.declared.breach.Breach.{Breach as SeenBreach};
 ghost use Rattle.dine_rules.specs.Local.{is_eating};
 ghost use Rattle.dine_rules.specs.Steps as step;
-ghost use Rattle.dine_site_core.specs.Places.{after_take};
-ghost use Rattle.dine_site_core.specs.Standing.{CorePuts, CoreSteps, ReportsBreach, ReportsMay};
+ghost use Rattle.dine_site.specs.Places.{after_take};
+ghost use Rattle.dine_site.specs.Standing.{CorePuts, CoreSteps, ReportsBreach, ReportsMay};
 ghost use Rattle.dine_ffi.specs.Acts.{put_step};
 ghost use Rattle.dine_ffi.specs.Answers.{IsRefused, breach_status};
 
 use crate::status::{NO_SUCH, breach_status};
 use dine_rules::Letter;
-use dine_site_core::SiteCore;
+use dine_site::SiteCore;
 
 /// The events that put a letter. `Break` is a Close out of order.
 #[derive(Clone, Copy)]

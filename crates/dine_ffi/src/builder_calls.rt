@@ -8,14 +8,14 @@ ghost use Rattle.dine_builder.specs.DraftPlan.{first_fault_of, plan_of_draft};
 ghost use Rattle.dine_draft.specs.declared.plan_fault.PlanFault.TheVariants as fault;
 ghost use Rattle.dine_ffi.specs.Answers.{IsDoneOr, IsOkOr, memory, open_already};
 ghost use Rattle.dine_ffi.specs.Builders.{AddsEdgeOrRefuses, AddsSiteOrRefuses, ChangesOrRefuses, IsNoPlan, act_of};
-ghost use Rattle.dine_ffi.specs.Things.{BuilderCall, HoldsBuilder, HoldsPlan, OfBuilder, OfHeld, OnBuilder};
+ghost use Rattle.dine_ffi.specs.Contents.{BuilderCall, HoldsBuilder, HoldsPlan, OfBuilder, OfHeld, OnBuilder};
 
+use crate::contents::{Contents, Object};
 use crate::handle::Handle;
 use crate::own_builder::OwnBuilder;
 use crate::own_plan::OwnPlan;
 use crate::plan_calls::open;
 use crate::status::{CLOSED, MEMORY, OPEN_ALREADY, OTHER_KIND, plan_status};
-use crate::thing::{Kept, Thing};
 use std::alloc::Global;
 
 /// Opens a builder of a plan, without sites and edges. The handle, which is closed, holds it then.
@@ -29,7 +29,7 @@ pub extern "C" fn dine_raw_plan_builder_open(alloc: Global, handle: &mut Handle)
     if handle.is_open() {
         return OPEN_ALREADY;
     }
-    open(alloc, Kept::Builder(OwnBuilder::open(alloc)), handle)
+    open(alloc, Object::Builder(OwnBuilder::open(alloc)), handle)
 }
 
 /// Adds a site whose name the bytes are, with this number of jobs, and returns its number.
@@ -42,14 +42,14 @@ pub extern "C" fn dine_raw_plan_builder_site(
 ) -> i64
     ensures becomes { BuilderCall (AddsSiteOrRefuses name.now jobs) result handle.old.slot.held handle.new.slot.held }
 {
-    let Some(mut thing) = handle.take(alloc) else {
+    let Some(mut contents) = handle.take(alloc) else {
         return CLOSED;
     };
-    let answer = match &mut thing.kept {
-        Kept::Builder(builder) => builder.site(alloc, name, jobs),
-        Kept::Plan(_) | Kept::World(_) | Kept::Site(_) => OTHER_KIND,
+    let answer = match &mut contents.object {
+        Object::Builder(builder) => builder.site(alloc, name, jobs),
+        Object::Plan(_) | Object::World(_) | Object::Site(_) => OTHER_KIND,
     };
-    handle.put(thing);
+    handle.put(contents);
     answer
 }
 
@@ -63,14 +63,14 @@ pub extern "C" fn dine_raw_plan_builder_edge(
 ) -> i64
     ensures becomes { BuilderCall (AddsEdgeOrRefuses a b) result handle.old.slot.held handle.new.slot.held }
 {
-    let Some(mut thing) = handle.take(alloc) else {
+    let Some(mut contents) = handle.take(alloc) else {
         return CLOSED;
     };
-    let answer = match &mut thing.kept {
-        Kept::Builder(builder) => builder.edge(a, b),
-        Kept::Plan(_) | Kept::World(_) | Kept::Site(_) => OTHER_KIND,
+    let answer = match &mut contents.object {
+        Object::Builder(builder) => builder.edge(a, b),
+        Object::Plan(_) | Object::World(_) | Object::Site(_) => OTHER_KIND,
     };
-    handle.put(thing);
+    handle.put(contents);
     answer
 }
 
@@ -86,14 +86,14 @@ pub extern "C" fn dine_raw_plan_builder_value(
         (fault.ValueTooLarge edge) (has_edge edge old) (with_value edge value old) result old new) result
         handle.old.slot.held handle.new.slot.held }
 {
-    let Some(mut thing) = handle.take(alloc) else {
+    let Some(mut contents) = handle.take(alloc) else {
         return CLOSED;
     };
-    let answer = match &mut thing.kept {
-        Kept::Builder(builder) => builder.value(edge, value),
-        Kept::Plan(_) | Kept::World(_) | Kept::Site(_) => OTHER_KIND,
+    let answer = match &mut contents.object {
+        Object::Builder(builder) => builder.value(edge, value),
+        Object::Plan(_) | Object::World(_) | Object::Site(_) => OTHER_KIND,
     };
-    handle.put(thing);
+    handle.put(contents);
     answer
 }
 
@@ -103,14 +103,14 @@ pub extern "C" fn dine_raw_plan_builder_resign(alloc: Global, handle: &mut Handl
     ensures becomes { BuilderCall (λ result old new. ChangesOrRefuses true fault.Memory (has_site site old)
         (with_resigning site old) result old new) result handle.old.slot.held handle.new.slot.held }
 {
-    let Some(mut thing) = handle.take(alloc) else {
+    let Some(mut contents) = handle.take(alloc) else {
         return CLOSED;
     };
-    let answer = match &mut thing.kept {
-        Kept::Builder(builder) => builder.resign(site),
-        Kept::Plan(_) | Kept::World(_) | Kept::Site(_) => OTHER_KIND,
+    let answer = match &mut contents.object {
+        Object::Builder(builder) => builder.resign(site),
+        Object::Plan(_) | Object::World(_) | Object::Site(_) => OTHER_KIND,
     };
-    handle.put(thing);
+    handle.put(contents);
     answer
 }
 
@@ -127,14 +127,14 @@ pub extern "C" fn dine_raw_plan_builder_turns(
         (fault.TurnsTooLarge site) (has_job site k old) (with_turns site k turns old) result old new) result
         handle.old.slot.held handle.new.slot.held }
 {
-    let Some(mut thing) = handle.take(alloc) else {
+    let Some(mut contents) = handle.take(alloc) else {
         return CLOSED;
     };
-    let answer = match &mut thing.kept {
-        Kept::Builder(builder) => builder.turns(site, k, turns),
-        Kept::Plan(_) | Kept::World(_) | Kept::Site(_) => OTHER_KIND,
+    let answer = match &mut contents.object {
+        Object::Builder(builder) => builder.turns(site, k, turns),
+        Object::Plan(_) | Object::World(_) | Object::Site(_) => OTHER_KIND,
     };
-    handle.put(thing);
+    handle.put(contents);
     answer
 }
 
@@ -149,14 +149,14 @@ pub extern "C" fn dine_raw_plan_builder_fails(
     ensures becomes { BuilderCall (λ result old new. ChangesOrRefuses true fault.Memory (has_job site k old)
         (with_failure site k old) result old new) result handle.old.slot.held handle.new.slot.held }
 {
-    let Some(mut thing) = handle.take(alloc) else {
+    let Some(mut contents) = handle.take(alloc) else {
         return CLOSED;
     };
-    let answer = match &mut thing.kept {
-        Kept::Builder(builder) => builder.fails(site, k),
-        Kept::Plan(_) | Kept::World(_) | Kept::Site(_) => OTHER_KIND,
+    let answer = match &mut contents.object {
+        Object::Builder(builder) => builder.fails(site, k),
+        Object::Plan(_) | Object::World(_) | Object::Site(_) => OTHER_KIND,
     };
-    handle.put(thing);
+    handle.put(contents);
     answer
 }
 
@@ -175,14 +175,14 @@ pub extern "C" fn dine_raw_plan_builder_act(
         (fault.ActTooLarge site) (has_job site k old) (with_act site k (act_of sets amount) old) result old new) result
         handle.old.slot.held handle.new.slot.held }
 {
-    let Some(mut thing) = handle.take(alloc) else {
+    let Some(mut contents) = handle.take(alloc) else {
         return CLOSED;
     };
-    let answer = match &mut thing.kept {
-        Kept::Builder(builder) => builder.act(site, k, sets, amount),
-        Kept::Plan(_) | Kept::World(_) | Kept::Site(_) => OTHER_KIND,
+    let answer = match &mut contents.object {
+        Object::Builder(builder) => builder.act(site, k, sets, amount),
+        Object::Plan(_) | Object::World(_) | Object::Site(_) => OTHER_KIND,
     };
-    handle.put(thing);
+    handle.put(contents);
     answer
 }
 
@@ -200,29 +200,29 @@ pub extern "C" fn dine_raw_plan_builder_finish(
         builder.old.slot.held) (plan.new.slot.held ≡ plan.old.slot.held) }
     ensures open { plan.old.slot.held ≢ None → result ≡ open_already }
     ensures refused { plan.old.slot.held ≡ None → IsDoneOr result Unit
-        (OfHeld builder.old.slot.held result (λ kept. OfBuilder kept result (λ d. IsNoPlan d result))) }
+        (OfHeld builder.old.slot.held result (λ object. OfBuilder object result (λ d. IsNoPlan d result))) }
 {
     if plan.is_open() {
         return OPEN_ALREADY;
     }
-    let Some(thing) = builder.take(alloc) else {
+    let Some(contents) = builder.take(alloc) else {
         return CLOSED;
     };
-    let answer = open_built(alloc, &thing, plan);
-    builder.put(thing);
+    let answer = open_built(alloc, &contents, plan);
+    builder.put(contents);
     answer
 }
 
-fn open_built(alloc: Global, thing: &Thing, handle: &mut Handle) -> i64
+fn open_built(alloc: Global, contents: &Contents, handle: &mut Handle) -> i64
     requires { handle.old.slot.held ≡ None }
     ensures plan { IsOkOr result
         (OnBuilder (λ d. (first_fault_of d ≡ None) × HoldsPlan (λ p. p ≡ plan_of_draft d) handle.new.slot.held)
-        thing.now.kept) (handle.new.slot.held ≡ handle.old.slot.held) }
-    ensures refused { IsDoneOr result Unit (OfBuilder thing.now.kept result (λ d. IsNoPlan d result)) }
+        contents.now.object) (handle.new.slot.held ≡ handle.old.slot.held) }
+    ensures refused { IsDoneOr result Unit (OfBuilder contents.now.object result (λ d. IsNoPlan d result)) }
 {
-    match &thing.kept {
-        Kept::Builder(builder) => open_plan_of(alloc, builder, handle),
-        Kept::Plan(_) | Kept::World(_) | Kept::Site(_) => OTHER_KIND,
+    match &contents.object {
+        Object::Builder(builder) => open_plan_of(alloc, builder, handle),
+        Object::Plan(_) | Object::World(_) | Object::Site(_) => OTHER_KIND,
     }
 }
 
@@ -238,7 +238,7 @@ fn open_plan_of(alloc: Global, builder: &OwnBuilder, handle: &mut Handle) -> i64
         Err(fault) => return plan_status(fault),
     };
     match OwnPlan::of(alloc, plan) {
-        Ok(plan) => open(alloc, Kept::Plan(plan), handle),
+        Ok(plan) => open(alloc, Object::Plan(plan), handle),
         Err(_) => MEMORY,
     }
 }

@@ -1,8 +1,8 @@
 //! The handle that C holds.
 ghost use Rattle.std.specs.Prelude.{◌≡◌, ◌==◌, MatchOption, None, Some, is_some};
 
+use crate::contents::Contents;
 use crate::slot::Slot;
-use crate::thing::Thing;
 use std::alloc::Global;
 use std::mem;
 
@@ -30,11 +30,11 @@ impl Handle {
     }
 
     // An open handle.
-    fn of(thing: Box<Thing>) -> Handle
-        ensures { result.slot.held ≡ Some thing.value }
+    fn of(contents: Box<Contents>) -> Handle
+        ensures { result.slot.held ≡ Some contents.value }
     {
         Handle {
-            slot: Slot::of(thing),
+            slot: Slot::of(contents),
             state: OPEN,
         }
     }
@@ -45,18 +45,18 @@ impl Handle {
         self.state == OPEN
     }
 
-    /// Takes the thing out, if the handle is open. Then it is closed.
-    pub(crate) fn take(&mut self, alloc: Global) -> Option<Box<Thing>>
+    /// Takes the contents out, if the handle is open. Then it is closed.
+    pub(crate) fn take(&mut self, alloc: Global) -> Option<Box<Contents>>
         ensures closed { self.new.slot.held ≡ None }
         ensures held { MatchOption result (self.old.slot.held ≡ None)
-            (λ thing. self.old.slot.held ≡ Some thing.value) }
+            (λ contents. self.old.slot.held ≡ Some contents.value) }
     {
         mem::replace(self, Handle::closed(alloc)).into_box()
     }
 
-    // The thing of the handle, if it is open.
-    fn into_box(self) -> Option<Box<Thing>>
-        ensures { MatchOption result (self.slot.held ≡ None) (λ thing. self.slot.held ≡ Some thing.value) }
+    // The contents of the handle, if it is open.
+    fn into_box(self) -> Option<Box<Contents>>
+        ensures { MatchOption result (self.slot.held ≡ None) (λ contents. self.slot.held ≡ Some contents.value) }
     {
         let Handle { slot, state } = self;
         if state == OPEN {
@@ -66,12 +66,12 @@ impl Handle {
         }
     }
 
-    /// Puts the thing back into the handle, which is closed.
-    pub(crate) fn put(&mut self, thing: Box<Thing>)
+    /// Puts the contents back into the handle, which is closed.
+    pub(crate) fn put(&mut self, contents: Box<Contents>)
         requires { self.old.slot.held ≡ None }
-        ensures { self.new.slot.held ≡ Some thing.value }
+        ensures { self.new.slot.held ≡ Some contents.value }
     {
-        *self = Handle::of(thing);
+        *self = Handle::of(contents);
     }
 }
 

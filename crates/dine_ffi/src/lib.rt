@@ -3,6 +3,7 @@
 
 mod acts;
 pub mod builder_calls;
+pub mod contents;
 mod copying;
 pub mod event;
 pub mod handle;
@@ -17,5 +18,4 @@ mod shelf;
 pub mod site_calls;
 pub mod slot;
 mod status;
-pub mod thing;
 pub mod world_calls;

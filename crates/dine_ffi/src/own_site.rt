@@ -7,9 +7,9 @@ ghost use Rattle.dine_rules.specs.declared.breach.Breach.{Breach as SeenBreach};
 ghost use Rattle.dine_rules.specs.Letters.{forks_in};
 ghost use Rattle.dine_rules.specs.Local.{LocalState, edge_at, is_eating};
 ghost use Rattle.dine_rules.specs.Steps as step;
-ghost use Rattle.dine_site_core.specs.NextEvent.{next_of};
-ghost use Rattle.dine_site_core.specs.Places.{IsMealOf, hand_of, has_all_said, is_held, neighbour_of, place_at};
-ghost use Rattle.dine_site_core.specs.Standing.{ReportsBreach};
+ghost use Rattle.dine_site.specs.NextEvent.{next_of};
+ghost use Rattle.dine_site.specs.Places.{IsMealOf, hand_of, has_all_said, is_held, neighbour_of, place_at};
+ghost use Rattle.dine_site.specs.Standing.{ReportsBreach};
 ghost use Rattle.dine_ffi.specs.Acts.{put_step};
 ghost use Rattle.dine_ffi.specs.Answers.{IsDoneOr, IsRefused, Reports, breach_status, done, no_such, number_of};
 ghost use Rattle.dine_ffi.specs.Events.{seen_event};
@@ -28,10 +28,10 @@ use crate::status::{
     wire_status,
 };
 use dine_rules::{Breach, EventKind, Letter};
-use dine_site_core::SiteCore;
-use dine_site_core::site::{ForkSlot, fresh_forks, fresh_tokens};
+use dine_site::SiteCore;
+use dine_site::site::{ForkSlot, fresh_forks, fresh_tokens};
 use dine_token::{Fork, Meal, Token};
-use dine_wire::{ForkNote, LETTER_MAX, Told, note_of, put_letter, read_letter};
+use dine_wire::{ForkNote, LETTER_MAX, Report, note_of, put_letter, read_letter};
 use std::alloc::{AllocError, Global};
 use std::marker::Model;
 use std::mem;
@@ -285,11 +285,11 @@ impl OwnSite {
         let Some(i) = self.place(note.edge) else {
             return OTHER_EDGE;
         };
-        match note.told {
-            Told::Fork(fork) => self.take_fork(alloc, i, fork),
-            Told::Request => self.take_word(i, Letter::Request(Token::open(note.edge))),
-            Told::Done => self.take_word(i, Letter::Done),
-            Told::Close => self.take_word(i, Letter::Close),
+        match note.report {
+            Report::Fork(fork) => self.take_fork(alloc, i, fork),
+            Report::Request => self.take_word(i, Letter::Request(Token::open(note.edge))),
+            Report::Done => self.take_word(i, Letter::Done),
+            Report::Close => self.take_word(i, Letter::Close),
         }
     }
 

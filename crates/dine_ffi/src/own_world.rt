@@ -3,17 +3,17 @@ ghost use Rattle.std.specs.Prelude.{◌≡◌, ℕ, IfOk, MatchOption, length, p
 ghost use Rattle.dine_rules.specs.Bound.{bound_of};
 ghost use Rattle.dine_rules.specs.Schedules.{finish_within, from_here, replay};
 ghost use Rattle.dine_rules.specs.World.{IsComplete, enabled_events, start};
-ghost use Rattle.dine_core.specs.Worlds.{ForEachWorld, IsWorldOf, RunsTo, forks_seen};
+ghost use Rattle.dine_world.specs.Worlds.{ForEachWorld, IsWorldOf, RunsTo, forks_seen};
 ghost use Rattle.dine_ffi.specs.Answers.{IsDoneOr, Reports, done, no_such, number_of};
 ghost use Rattle.dine_ffi.specs.Events.{kind_numbered, seen_event};
-ghost use Rattle.dine_ffi.specs.Things.{StepsWorldOrRefuses};
+ghost use Rattle.dine_ffi.specs.Contents.{StepsWorldOrRefuses};
 ghost use Rattle.dine_ffi.specs.Written.{ArePeriods};
 
 use crate::event::{DineEvent, event_of, kind_of};
 use crate::periods::write_periods;
 use crate::status::{DONE, NO_SUCH, NOT_NOW, number, phase_number};
-use dine_core::{Event, World};
 use dine_graph::Plan;
+use dine_world::{Event, World};
 use std::alloc::{AllocError, Global};
 use std::marker::Model;
 
@@ -22,7 +22,7 @@ pub struct OwnWorld {
 }
 
 impl Model for OwnWorld {
-    ghost use Rattle.dine_core.specs.Worlds.{SeenWorld};
+    ghost use Rattle.dine_world.specs.Worlds.{SeenWorld};
 
     ghost Value = { SeenWorld };
 

@@ -4,14 +4,14 @@ ghost use Rattle.dine_graph.specs.Plan.{edge_count, hi_of, job_count, lo_of, nam
 ghost use Rattle.dine_reader.specs.PlanOf.{IsPlanOf};
 ghost use Rattle.dine_ffi.specs.Answers.{IsDoneOr, IsOkOr, IsWithin, closed, done, memory, open_already};
 ghost use Rattle.dine_ffi.specs.Refusals.{IsRefusedFor, RefusalIs, plan_status};
-ghost use Rattle.dine_ffi.specs.Things.{HoldsPlan, OfHeld, OfPlan};
+ghost use Rattle.dine_ffi.specs.Contents.{HoldsPlan, OfHeld, OfPlan};
 ghost use Rattle.dine_ffi.specs.Written.{over_front};
 ghost use Rattle.dine_draft.specs.declared.plan_fault.PlanFault.{PlanFault as SeenFault};
 
+use crate::contents::{Contents, Object};
 use crate::handle::Handle;
 use crate::own_plan::{DineEnds, OwnPlan, write_refusal};
 use crate::status::{CLOSED, DONE, MEMORY, OPEN_ALREADY, OTHER_KIND, plan_status};
-use crate::thing::{Kept, Thing};
 use std::alloc::Global;
 
 /// Reads the plan whose text the bytes are. The handle, which is closed, holds it then.
@@ -27,7 +27,7 @@ pub extern "C" fn dine_raw_plan_open(alloc: Global, text: &[u8], handle: &mut Ha
         return OPEN_ALREADY;
     }
     match OwnPlan::read(alloc, text) {
-        Ok(plan) => open(alloc, Kept::Plan(plan), handle),
+        Ok(plan) => open(alloc, Object::Plan(plan), handle),
         Err(fault) => plan_status(fault),
     }
 }
@@ -43,15 +43,15 @@ pub extern "C" fn dine_raw_plan_refusal(alloc: Global, text: &[u8], out: &mut [u
 }
 
 // The handle, which is closed, holds this.
-pub(crate) fn open(alloc: Global, kept: Kept, handle: &mut Handle) -> i64
+pub(crate) fn open(alloc: Global, object: Object, handle: &mut Handle) -> i64
     requires { handle.old.slot.held ≡ None }
-    ensures handle { IsOkOr result (handle.new.slot.held ≡ Some (record { kept = kept }))
+    ensures handle { IsOkOr result (handle.new.slot.held ≡ Some (record { object = object }))
         (handle.new.slot.held ≡ handle.old.slot.held) }
     ensures memory { IsDoneOr result Unit (result ≡ memory) }
 {
-    match Box::new(alloc, Thing { kept }) {
-        Ok(thing) => {
-            handle.put(thing);
+    match Box::new(alloc, Contents { object }) {
+        Ok(contents) => {
+            handle.put(contents);
             DONE
         }
         Err(_) => MEMORY,
@@ -75,16 +75,16 @@ pub extern "C" fn dine_raw_close(alloc: Global, handle: &mut Handle) -> i64
 pub extern "C" fn dine_raw_plan_version(alloc: Global, handle: &mut Handle) -> i64
     ensures same { handle.new.slot.held ≡ handle.old.slot.held }
     ensures answer { OfHeld handle.old.slot.held result
-        (λ kept. OfPlan kept result (λ plan. result ≡ pos plan.version)) }
+        (λ object. OfPlan object result (λ plan. result ≡ pos plan.version)) }
 {
-    let Some(thing) = handle.take(alloc) else {
+    let Some(contents) = handle.take(alloc) else {
         return CLOSED;
     };
-    let answer = match &thing.kept {
-        Kept::Plan(plan) => i64::from(plan.plan().version()),
-        Kept::World(_) | Kept::Site(_) | Kept::Builder(_) => OTHER_KIND,
+    let answer = match &contents.object {
+        Object::Plan(plan) => i64::from(plan.plan().version()),
+        Object::World(_) | Object::Site(_) | Object::Builder(_) => OTHER_KIND,
     };
-    handle.put(thing);
+    handle.put(contents);
     answer
 }
 
@@ -92,17 +92,17 @@ pub extern "C" fn dine_raw_plan_version(alloc: Global, handle: &mut Handle) -> i
 #[unsafe(no_mangle)]
 pub extern "C" fn dine_raw_plan_sites(alloc: Global, handle: &mut Handle) -> i64
     ensures same { handle.new.slot.held ≡ handle.old.slot.held }
-    ensures answer { OfHeld handle.old.slot.held result (λ kept. OfPlan kept result
+    ensures answer { OfHeld handle.old.slot.held result (λ object. OfPlan object result
         (λ plan. result ≡ pos (site_count plan))) }
 {
-    let Some(thing) = handle.take(alloc) else {
+    let Some(contents) = handle.take(alloc) else {
         return CLOSED;
     };
-    let answer = match &thing.kept {
-        Kept::Plan(plan) => i64::from(plan.plan().sites()),
-        Kept::World(_) | Kept::Site(_) | Kept::Builder(_) => OTHER_KIND,
+    let answer = match &contents.object {
+        Object::Plan(plan) => i64::from(plan.plan().sites()),
+        Object::World(_) | Object::Site(_) | Object::Builder(_) => OTHER_KIND,
     };
-    handle.put(thing);
+    handle.put(contents);
     answer
 }
 
@@ -110,17 +110,17 @@ pub extern "C" fn dine_raw_plan_sites(alloc: Global, handle: &mut Handle) -> i64
 #[unsafe(no_mangle)]
 pub extern "C" fn dine_raw_plan_edges(alloc: Global, handle: &mut Handle) -> i64
     ensures same { handle.new.slot.held ≡ handle.old.slot.held }
-    ensures answer { OfHeld handle.old.slot.held result (λ kept. OfPlan kept result
+    ensures answer { OfHeld handle.old.slot.held result (λ object. OfPlan object result
         (λ plan. result ≡ pos (edge_count plan))) }
 {
-    let Some(thing) = handle.take(alloc) else {
+    let Some(contents) = handle.take(alloc) else {
         return CLOSED;
     };
-    let answer = match &thing.kept {
-        Kept::Plan(plan) => i64::from(plan.plan().edges()),
-        Kept::World(_) | Kept::Site(_) | Kept::Builder(_) => OTHER_KIND,
+    let answer = match &contents.object {
+        Object::Plan(plan) => i64::from(plan.plan().edges()),
+        Object::World(_) | Object::Site(_) | Object::Builder(_) => OTHER_KIND,
     };
-    handle.put(thing);
+    handle.put(contents);
     answer
 }
 
@@ -128,17 +128,17 @@ pub extern "C" fn dine_raw_plan_edges(alloc: Global, handle: &mut Handle) -> i64
 #[unsafe(no_mangle)]
 pub extern "C" fn dine_raw_plan_jobs(alloc: Global, handle: &mut Handle, site: u32) -> i64
     ensures same { handle.new.slot.held ≡ handle.old.slot.held }
-    ensures answer { OfHeld handle.old.slot.held result (λ kept. OfPlan kept result
+    ensures answer { OfHeld handle.old.slot.held result (λ object. OfPlan object result
         (λ plan. IsWithin site (site_count plan) result (result ≡ pos (job_count plan site)))) }
 {
-    let Some(thing) = handle.take(alloc) else {
+    let Some(contents) = handle.take(alloc) else {
         return CLOSED;
     };
-    let answer = match &thing.kept {
-        Kept::Plan(plan) => plan.jobs(site),
-        Kept::World(_) | Kept::Site(_) | Kept::Builder(_) => OTHER_KIND,
+    let answer = match &contents.object {
+        Object::Plan(plan) => plan.jobs(site),
+        Object::World(_) | Object::Site(_) | Object::Builder(_) => OTHER_KIND,
     };
-    handle.put(thing);
+    handle.put(contents);
     answer
 }
 
@@ -151,19 +151,19 @@ pub extern "C" fn dine_raw_plan_name(
     out: &mut [u8],
 ) -> i64
     ensures same { handle.new.slot.held ≡ handle.old.slot.held }
-    ensures answer { OfHeld handle.old.slot.held result (λ kept. OfPlan kept result
+    ensures answer { OfHeld handle.old.slot.held result (λ object. OfPlan object result
         (λ plan. IsWithin site (site_count plan) result ((result ≡ pos (length (name_of plan site)))
         × (out.new ≡ over_front (name_of plan site) out.old)))) }
     ensures unwritten { IsDoneOr result Unit (out.new ≡ out.old) }
 {
-    let Some(thing) = handle.take(alloc) else {
+    let Some(contents) = handle.take(alloc) else {
         return CLOSED;
     };
-    let answer = match &thing.kept {
-        Kept::Plan(plan) => plan.name(site, out),
-        Kept::World(_) | Kept::Site(_) | Kept::Builder(_) => OTHER_KIND,
+    let answer = match &contents.object {
+        Object::Plan(plan) => plan.name(site, out),
+        Object::World(_) | Object::Site(_) | Object::Builder(_) => OTHER_KIND,
     };
-    handle.put(thing);
+    handle.put(contents);
     answer
 }
 
@@ -176,18 +176,18 @@ pub extern "C" fn dine_raw_plan_ends(
     out: &mut DineEnds,
 ) -> i64
     ensures same { handle.new.slot.held ≡ handle.old.slot.held }
-    ensures answer { OfHeld handle.old.slot.held result (λ kept. OfPlan kept result
+    ensures answer { OfHeld handle.old.slot.held result (λ object. OfPlan object result
         (λ plan. IsWithin edge (edge_count plan) result ((result ≡ done)
         × (out.new ≡ record { lower = lo_of plan edge; higher = hi_of plan edge })))) }
     ensures unwritten { IsDoneOr result Unit (out.new ≡ out.old) }
 {
-    let Some(thing) = handle.take(alloc) else {
+    let Some(contents) = handle.take(alloc) else {
         return CLOSED;
     };
-    let answer = match &thing.kept {
-        Kept::Plan(plan) => plan.ends(edge, out),
-        Kept::World(_) | Kept::Site(_) | Kept::Builder(_) => OTHER_KIND,
+    let answer = match &contents.object {
+        Object::Plan(plan) => plan.ends(edge, out),
+        Object::World(_) | Object::Site(_) | Object::Builder(_) => OTHER_KIND,
     };
-    handle.put(thing);
+    handle.put(contents);
     answer
 }

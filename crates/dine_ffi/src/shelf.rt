@@ -12,7 +12,7 @@ ghost use Rattle.dine_ffi.specs.Shelves.{AwaitsFork, IsForkBreach, IsNotTakenBac
 use crate::status::{NO_SUCH, breach_status, wire_status};
 use dine_graph::Plan;
 use dine_rules::{Breach, Letter};
-use dine_site_core::SiteCore;
+use dine_site::SiteCore;
 use dine_token::Fork;
 use dine_wire::{ForkNote, WireFault, arrive, first_fork};
 use std::alloc::{AllocError, Global};

@@ -3,24 +3,24 @@ ghost use Rattle.std.specs.Prelude.{◌≡◌, ◌≢◌, ◌<◌, MatchOption, 
 ghost use Rattle.dine_graph.specs.Plan.{site_count};
 ghost use Rattle.dine_rules.specs.Local.{edge_at};
 ghost use Rattle.dine_rules.specs.Steps as step;
-ghost use Rattle.dine_site_core.specs.NextEvent.{next_of};
-ghost use Rattle.dine_site_core.specs.Places.{hand_of, has_all_said, is_held, neighbour_of, place_at};
+ghost use Rattle.dine_site.specs.NextEvent.{next_of};
+ghost use Rattle.dine_site.specs.Places.{hand_of, has_all_said, is_held, neighbour_of, place_at};
 ghost use Rattle.dine_ffi.specs.Answers.{IsDoneOr, IsOkOr, IsWithin, Reports, done, memory, no_such};
 ghost use Rattle.dine_ffi.specs.Answers.{number_of, open_already};
 ghost use Rattle.dine_ffi.specs.Events.{seen_event};
 ghost use Rattle.dine_ffi.specs.OwnSites.{ActsOrRefuses, BeginsOrRefuses, EndsOrRefuses, IsNoPlace, IsOpened};
 ghost use Rattle.dine_ffi.specs.OwnSites.{PutsOrRefuses, StepsOrRefuses, TakesOrRefuses, is_used};
-ghost use Rattle.dine_ffi.specs.Things.{HoldsPlan, HoldsSite, OfHeld, OfPlan, OfSite, OnPlan, SiteCall};
+ghost use Rattle.dine_ffi.specs.Contents.{HoldsPlan, HoldsSite, OfHeld, OfPlan, OfSite, OnPlan, SiteCall};
 ghost use Rattle.dine_ffi.specs.Written.{ArePeriods};
 
 use crate::acts::PutKind;
+use crate::contents::{Contents, Object};
 use crate::event::DineEvent;
 use crate::handle::Handle;
 use crate::own_plan::OwnPlan;
 use crate::own_site::{DinePlace, DineSiteState, OwnSite};
 use crate::plan_calls::open;
 use crate::status::{CLOSED, MEMORY, NO_SUCH, OPEN_ALREADY, OTHER_KIND};
-use crate::thing::{Kept, Thing};
 use std::alloc::Global;
 
 /// Opens the site of the plan that the handle `plan` holds, in the run 0. The handle `site`, which is closed, holds it
@@ -38,7 +38,7 @@ pub extern "C" fn dine_raw_site_open(
         (site.new.slot.held ≡ site.old.slot.held) }
     ensures open { site.old.slot.held ≢ None → result ≡ open_already }
     ensures refused { site.old.slot.held ≡ None → IsDoneOr result Unit (OfHeld plan.old.slot.held result
-        (λ kept. OfPlan kept result (λ p. IsWithin number (site_count p) result (result ≡ memory)))) }
+        (λ object. OfPlan object result (λ p. IsWithin number (site_count p) result (result ≡ memory)))) }
 {
     dine_raw_site_open_in(alloc, plan, number, 0, site)
 }
@@ -59,30 +59,30 @@ pub extern "C" fn dine_raw_site_open_in(
         (site.new.slot.held ≡ site.old.slot.held) }
     ensures open { site.old.slot.held ≢ None → result ≡ open_already }
     ensures refused { site.old.slot.held ≡ None → IsDoneOr result Unit (OfHeld plan.old.slot.held result
-        (λ kept. OfPlan kept result (λ p. IsWithin number (site_count p) result (result ≡ memory)))) }
+        (λ object. OfPlan object result (λ p. IsWithin number (site_count p) result (result ≡ memory)))) }
 {
     if site.is_open() {
         return OPEN_ALREADY;
     }
-    let Some(thing) = plan.take(alloc) else {
+    let Some(contents) = plan.take(alloc) else {
         return CLOSED;
     };
-    let answer = open_site(alloc, &thing, number, run, site);
-    plan.put(thing);
+    let answer = open_site(alloc, &contents, number, run, site);
+    plan.put(contents);
     answer
 }
 
-fn open_site(alloc: Global, thing: &Thing, number: u32, run: u64, handle: &mut Handle) -> i64
+fn open_site(alloc: Global, contents: &Contents, number: u32, run: u64, handle: &mut Handle) -> i64
     requires { handle.old.slot.held ≡ None }
     ensures site { IsOkOr result
-        (OnPlan (λ p. HoldsSite (IsOpened p run number) handle.new.slot.held) thing.now.kept)
+        (OnPlan (λ p. HoldsSite (IsOpened p run number) handle.new.slot.held) contents.now.object)
         (handle.new.slot.held ≡ handle.old.slot.held) }
-    ensures refused { IsDoneOr result Unit (OfPlan thing.now.kept result
+    ensures refused { IsDoneOr result Unit (OfPlan contents.now.object result
         (λ p. IsWithin number (site_count p) result (result ≡ memory))) }
 {
-    match &thing.kept {
-        Kept::Plan(plan) => open_site_of(alloc, plan, number, run, handle),
-        Kept::World(_) | Kept::Site(_) | Kept::Builder(_) => OTHER_KIND,
+    match &contents.object {
+        Object::Plan(plan) => open_site_of(alloc, plan, number, run, handle),
+        Object::World(_) | Object::Site(_) | Object::Builder(_) => OTHER_KIND,
     }
 }
 
@@ -100,7 +100,7 @@ fn open_site_of(alloc: Global, plan: &OwnPlan, number: u32, run: u64, handle: &m
         return MEMORY;
     };
     match OwnSite::open(alloc, plan, run, number) {
-        Ok(site) => open(alloc, Kept::Site(site), handle),
+        Ok(site) => open(alloc, Object::Site(site), handle),
         Err(_) => MEMORY,
     }
 }
@@ -113,7 +113,7 @@ pub extern "C" fn dine_raw_site_state(
     out: &mut DineSiteState,
 ) -> i64
     ensures same { handle.new.slot.held ≡ handle.old.slot.held }
-    ensures answer { OfHeld handle.old.slot.held result (λ kept. OfSite kept result
+    ensures answer { OfHeld handle.old.slot.held result (λ object. OfSite object result
         (λ own. (result ≡ done) × (out.new ≡ record {
           phase = number_of own.core.phase;
           ate = own.core.ate;
@@ -122,14 +122,14 @@ pub extern "C" fn dine_raw_site_state(
         }))) }
     ensures unwritten { IsDoneOr result Unit (out.new ≡ out.old) }
 {
-    let Some(thing) = handle.take(alloc) else {
+    let Some(contents) = handle.take(alloc) else {
         return CLOSED;
     };
-    let answer = match &thing.kept {
-        Kept::Site(site) => site.state(out),
-        Kept::Plan(_) | Kept::World(_) | Kept::Builder(_) => OTHER_KIND,
+    let answer = match &contents.object {
+        Object::Site(site) => site.state(out),
+        Object::Plan(_) | Object::World(_) | Object::Builder(_) => OTHER_KIND,
     };
-    handle.put(thing);
+    handle.put(contents);
     answer
 }
 
@@ -142,7 +142,7 @@ pub extern "C" fn dine_raw_site_place(
     out: &mut DinePlace,
 ) -> i64
     ensures same { handle.new.slot.held ≡ handle.old.slot.held }
-    ensures answer { OfHeld handle.old.slot.held result (λ kept. OfSite kept result
+    ensures answer { OfHeld handle.old.slot.held result (λ object. OfSite object result
         (λ own. IsDoneOr result ((i < length own.core.places)
         × (out.new ≡ record {
           edge = edge_at own.plan own.core.site i;
@@ -155,14 +155,14 @@ pub extern "C" fn dine_raw_site_place(
         × (out.new ≡ out.old) × IsNoPlace i own))) }
     ensures unwritten { IsDoneOr result Unit (out.new ≡ out.old) }
 {
-    let Some(thing) = handle.take(alloc) else {
+    let Some(contents) = handle.take(alloc) else {
         return CLOSED;
     };
-    let answer = match &thing.kept {
-        Kept::Site(site) => site.place_state(i, out),
-        Kept::Plan(_) | Kept::World(_) | Kept::Builder(_) => OTHER_KIND,
+    let answer = match &contents.object {
+        Object::Site(site) => site.place_state(i, out),
+        Object::Plan(_) | Object::World(_) | Object::Builder(_) => OTHER_KIND,
     };
-    handle.put(thing);
+    handle.put(contents);
     answer
 }
 
@@ -170,19 +170,19 @@ pub extern "C" fn dine_raw_site_place(
 #[unsafe(no_mangle)]
 pub extern "C" fn dine_raw_site_next(alloc: Global, handle: &mut Handle, out: &mut DineEvent) -> i64
     ensures same { handle.new.slot.held ≡ handle.old.slot.held }
-    ensures answer { OfHeld handle.old.slot.held result (λ kept. OfSite kept result
+    ensures answer { OfHeld handle.old.slot.held result (λ object. OfSite object result
         (λ own. MatchOption (next_of own.core) ((result ≡ pos 0) × (out.new ≡ out.old)) (λ kind. (result ≡ pos 1)
         × (out.new ≡ seen_event own.core.site kind)))) }
     ensures unwritten { IsDoneOr result Unit (out.new ≡ out.old) }
 {
-    let Some(thing) = handle.take(alloc) else {
+    let Some(contents) = handle.take(alloc) else {
         return CLOSED;
     };
-    let answer = match &thing.kept {
-        Kept::Site(site) => site.next(out),
-        Kept::Plan(_) | Kept::World(_) | Kept::Builder(_) => OTHER_KIND,
+    let answer = match &contents.object {
+        Object::Site(site) => site.next(out),
+        Object::Plan(_) | Object::World(_) | Object::Builder(_) => OTHER_KIND,
     };
-    handle.put(thing);
+    handle.put(contents);
     answer
 }
 
@@ -191,14 +191,14 @@ pub extern "C" fn dine_raw_site_next(alloc: Global, handle: &mut Handle, out: &m
 pub extern "C" fn dine_raw_site_hungry(alloc: Global, handle: &mut Handle) -> i64
     ensures becomes { SiteCall (StepsOrRefuses step.Hungry) result handle.old.slot.held handle.new.slot.held }
 {
-    let Some(mut thing) = handle.take(alloc) else {
+    let Some(mut contents) = handle.take(alloc) else {
         return CLOSED;
     };
-    let answer = match &mut thing.kept {
-        Kept::Site(site) => site.hungry(),
-        Kept::Plan(_) | Kept::World(_) | Kept::Builder(_) => OTHER_KIND,
+    let answer = match &mut contents.object {
+        Object::Site(site) => site.hungry(),
+        Object::Plan(_) | Object::World(_) | Object::Builder(_) => OTHER_KIND,
     };
-    handle.put(thing);
+    handle.put(contents);
     answer
 }
 
@@ -207,14 +207,14 @@ pub extern "C" fn dine_raw_site_hungry(alloc: Global, handle: &mut Handle) -> i6
 pub extern "C" fn dine_raw_site_quit(alloc: Global, handle: &mut Handle) -> i64
     ensures becomes { SiteCall (StepsOrRefuses step.Quit) result handle.old.slot.held handle.new.slot.held }
 {
-    let Some(mut thing) = handle.take(alloc) else {
+    let Some(mut contents) = handle.take(alloc) else {
         return CLOSED;
     };
-    let answer = match &mut thing.kept {
-        Kept::Site(site) => site.quit(),
-        Kept::Plan(_) | Kept::World(_) | Kept::Builder(_) => OTHER_KIND,
+    let answer = match &mut contents.object {
+        Object::Site(site) => site.quit(),
+        Object::Plan(_) | Object::World(_) | Object::Builder(_) => OTHER_KIND,
     };
-    handle.put(thing);
+    handle.put(contents);
     answer
 }
 
@@ -230,14 +230,14 @@ pub extern "C" fn dine_raw_site_give(
         handle.old.slot.held handle.new.slot.held }
     ensures unwritten { IsDoneOr result Unit (out.new ≡ out.old) }
 {
-    let Some(mut thing) = handle.take(alloc) else {
+    let Some(mut contents) = handle.take(alloc) else {
         return CLOSED;
     };
-    let answer = match &mut thing.kept {
-        Kept::Site(site) => site.put(PutKind::Give, i, out),
-        Kept::Plan(_) | Kept::World(_) | Kept::Builder(_) => OTHER_KIND,
+    let answer = match &mut contents.object {
+        Object::Site(site) => site.put(PutKind::Give, i, out),
+        Object::Plan(_) | Object::World(_) | Object::Builder(_) => OTHER_KIND,
     };
-    handle.put(thing);
+    handle.put(contents);
     answer
 }
 
@@ -253,14 +253,14 @@ pub extern "C" fn dine_raw_site_ask(
         handle.old.slot.held handle.new.slot.held }
     ensures unwritten { IsDoneOr result Unit (out.new ≡ out.old) }
 {
-    let Some(mut thing) = handle.take(alloc) else {
+    let Some(mut contents) = handle.take(alloc) else {
         return CLOSED;
     };
-    let answer = match &mut thing.kept {
-        Kept::Site(site) => site.put(PutKind::Ask, i, out),
-        Kept::Plan(_) | Kept::World(_) | Kept::Builder(_) => OTHER_KIND,
+    let answer = match &mut contents.object {
+        Object::Site(site) => site.put(PutKind::Ask, i, out),
+        Object::Plan(_) | Object::World(_) | Object::Builder(_) => OTHER_KIND,
     };
-    handle.put(thing);
+    handle.put(contents);
     answer
 }
 
@@ -276,14 +276,14 @@ pub extern "C" fn dine_raw_site_done(
         handle.old.slot.held handle.new.slot.held }
     ensures unwritten { IsDoneOr result Unit (out.new ≡ out.old) }
 {
-    let Some(mut thing) = handle.take(alloc) else {
+    let Some(mut contents) = handle.take(alloc) else {
         return CLOSED;
     };
-    let answer = match &mut thing.kept {
-        Kept::Site(site) => site.put(PutKind::Done, i, out),
-        Kept::Plan(_) | Kept::World(_) | Kept::Builder(_) => OTHER_KIND,
+    let answer = match &mut contents.object {
+        Object::Site(site) => site.put(PutKind::Done, i, out),
+        Object::Plan(_) | Object::World(_) | Object::Builder(_) => OTHER_KIND,
     };
-    handle.put(thing);
+    handle.put(contents);
     answer
 }
 
@@ -299,14 +299,14 @@ pub extern "C" fn dine_raw_site_shut(
         handle.old.slot.held handle.new.slot.held }
     ensures unwritten { IsDoneOr result Unit (out.new ≡ out.old) }
 {
-    let Some(mut thing) = handle.take(alloc) else {
+    let Some(mut contents) = handle.take(alloc) else {
         return CLOSED;
     };
-    let answer = match &mut thing.kept {
-        Kept::Site(site) => site.put(PutKind::Close, i, out),
-        Kept::Plan(_) | Kept::World(_) | Kept::Builder(_) => OTHER_KIND,
+    let answer = match &mut contents.object {
+        Object::Site(site) => site.put(PutKind::Close, i, out),
+        Object::Plan(_) | Object::World(_) | Object::Builder(_) => OTHER_KIND,
     };
-    handle.put(thing);
+    handle.put(contents);
     answer
 }
 
@@ -323,14 +323,14 @@ pub extern "C" fn dine_raw_site_break(
         handle.old.slot.held handle.new.slot.held }
     ensures unwritten { IsDoneOr result Unit (out.new ≡ out.old) }
 {
-    let Some(mut thing) = handle.take(alloc) else {
+    let Some(mut contents) = handle.take(alloc) else {
         return CLOSED;
     };
-    let answer = match &mut thing.kept {
-        Kept::Site(site) => site.put(PutKind::Break, i, out),
-        Kept::Plan(_) | Kept::World(_) | Kept::Builder(_) => OTHER_KIND,
+    let answer = match &mut contents.object {
+        Object::Site(site) => site.put(PutKind::Break, i, out),
+        Object::Plan(_) | Object::World(_) | Object::Builder(_) => OTHER_KIND,
     };
-    handle.put(thing);
+    handle.put(contents);
     answer
 }
 
@@ -347,14 +347,14 @@ pub extern "C" fn dine_raw_site_act(
         handle.old.slot.held handle.new.slot.held }
     ensures unwritten { IsDoneOr result Unit (out.new ≡ out.old) }
 {
-    let Some(mut thing) = handle.take(alloc) else {
+    let Some(mut contents) = handle.take(alloc) else {
         return CLOSED;
     };
-    let answer = match &mut thing.kept {
-        Kept::Site(site) => site.act(*event, out),
-        Kept::Plan(_) | Kept::World(_) | Kept::Builder(_) => OTHER_KIND,
+    let answer = match &mut contents.object {
+        Object::Site(site) => site.act(*event, out),
+        Object::Plan(_) | Object::World(_) | Object::Builder(_) => OTHER_KIND,
     };
-    handle.put(thing);
+    handle.put(contents);
     answer
 }
 
@@ -363,14 +363,14 @@ pub extern "C" fn dine_raw_site_act(
 pub extern "C" fn dine_raw_site_take(alloc: Global, handle: &mut Handle, letter: &[u8]) -> i64
     ensures becomes { SiteCall (TakesOrRefuses letter.now) result handle.old.slot.held handle.new.slot.held }
 {
-    let Some(mut thing) = handle.take(alloc) else {
+    let Some(mut contents) = handle.take(alloc) else {
         return CLOSED;
     };
-    let answer = match &mut thing.kept {
-        Kept::Site(site) => site.take(alloc, letter),
-        Kept::Plan(_) | Kept::World(_) | Kept::Builder(_) => OTHER_KIND,
+    let answer = match &mut contents.object {
+        Object::Site(site) => site.take(alloc, letter),
+        Object::Plan(_) | Object::World(_) | Object::Builder(_) => OTHER_KIND,
     };
-    handle.put(thing);
+    handle.put(contents);
     answer
 }
 
@@ -379,14 +379,14 @@ pub extern "C" fn dine_raw_site_take(alloc: Global, handle: &mut Handle, letter:
 pub extern "C" fn dine_raw_site_begin(alloc: Global, handle: &mut Handle) -> i64
     ensures becomes { SiteCall BeginsOrRefuses result handle.old.slot.held handle.new.slot.held }
 {
-    let Some(mut thing) = handle.take(alloc) else {
+    let Some(mut contents) = handle.take(alloc) else {
         return CLOSED;
     };
-    let answer = match &mut thing.kept {
-        Kept::Site(site) => site.begin(),
-        Kept::Plan(_) | Kept::World(_) | Kept::Builder(_) => OTHER_KIND,
+    let answer = match &mut contents.object {
+        Object::Site(site) => site.begin(),
+        Object::Plan(_) | Object::World(_) | Object::Builder(_) => OTHER_KIND,
     };
-    handle.put(thing);
+    handle.put(contents);
     answer
 }
 
@@ -395,14 +395,14 @@ pub extern "C" fn dine_raw_site_begin(alloc: Global, handle: &mut Handle) -> i64
 pub extern "C" fn dine_raw_site_end(alloc: Global, handle: &mut Handle, failed: bool) -> i64
     ensures becomes { SiteCall (EndsOrRefuses failed) result handle.old.slot.held handle.new.slot.held }
 {
-    let Some(mut thing) = handle.take(alloc) else {
+    let Some(mut contents) = handle.take(alloc) else {
         return CLOSED;
     };
-    let answer = match &mut thing.kept {
-        Kept::Site(site) => site.end(failed),
-        Kept::Plan(_) | Kept::World(_) | Kept::Builder(_) => OTHER_KIND,
+    let answer = match &mut contents.object {
+        Object::Site(site) => site.end(failed),
+        Object::Plan(_) | Object::World(_) | Object::Builder(_) => OTHER_KIND,
     };
-    handle.put(thing);
+    handle.put(contents);
     answer
 }
 
@@ -416,19 +416,19 @@ pub extern "C" fn dine_raw_site_fork(
     out: &mut [u32],
 ) -> i64
     ensures same { handle.new.slot.held ≡ handle.old.slot.held }
-    ensures answer { OfHeld handle.old.slot.held result (λ kept. OfSite kept result
+    ensures answer { OfHeld handle.old.slot.held result (λ object. OfSite object result
         (λ own. MatchOption (hand_of (place_at own.core i).fork) ((result ≡ no_such) × (out.new ≡ out.old))
         (λ fork. ArePeriods fork out.old out.new result))) }
     ensures unwritten { IsDoneOr result Unit (out.new ≡ out.old) }
 {
-    let Some(thing) = handle.take(alloc) else {
+    let Some(contents) = handle.take(alloc) else {
         return CLOSED;
     };
-    let answer = match &thing.kept {
-        Kept::Site(site) => site.periods(i, out),
-        Kept::Plan(_) | Kept::World(_) | Kept::Builder(_) => OTHER_KIND,
+    let answer = match &contents.object {
+        Object::Site(site) => site.periods(i, out),
+        Object::Plan(_) | Object::World(_) | Object::Builder(_) => OTHER_KIND,
     };
-    handle.put(thing);
+    handle.put(contents);
     answer
 }
 
@@ -436,17 +436,17 @@ pub extern "C" fn dine_raw_site_fork(
 #[unsafe(no_mangle)]
 pub extern "C" fn dine_raw_site_value(alloc: Global, handle: &mut Handle, i: u32) -> i64
     ensures same { handle.new.slot.held ≡ handle.old.slot.held }
-    ensures answer { OfHeld handle.old.slot.held result (λ kept. OfSite kept result
+    ensures answer { OfHeld handle.old.slot.held result (λ object. OfSite object result
         (λ own. MatchOption (hand_of (place_at own.core i).fork) (result ≡ no_such)
         (λ fork. Reports result fork.value))) }
 {
-    let Some(thing) = handle.take(alloc) else {
+    let Some(contents) = handle.take(alloc) else {
         return CLOSED;
     };
-    let answer = match &thing.kept {
-        Kept::Site(site) => site.value(i),
-        Kept::Plan(_) | Kept::World(_) | Kept::Builder(_) => OTHER_KIND,
+    let answer = match &contents.object {
+        Object::Site(site) => site.value(i),
+        Object::Plan(_) | Object::World(_) | Object::Builder(_) => OTHER_KIND,
     };
-    handle.put(thing);
+    handle.put(contents);
     answer
 }

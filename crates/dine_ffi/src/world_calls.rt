@@ -3,19 +3,19 @@ ghost use Rattle.std.specs.Prelude.{◌≡◌, ◌≢◌, ℕ, MatchOption, None
 ghost use Rattle.dine_rules.specs.Bound.{bound_of};
 ghost use Rattle.dine_rules.specs.Schedules.{finish_within, from_here, replay};
 ghost use Rattle.dine_rules.specs.World.{IsComplete, enabled_events, start};
-ghost use Rattle.dine_core.specs.Worlds.{ForEachWorld, IsWorldOf, RunsTo, forks_seen};
+ghost use Rattle.dine_world.specs.Worlds.{ForEachWorld, IsWorldOf, RunsTo, forks_seen};
 ghost use Rattle.dine_ffi.specs.Answers.{IsDoneOr, IsOkOr, Reports, done, memory, no_such, number_of, open_already};
 ghost use Rattle.dine_ffi.specs.Events.{kind_numbered, seen_event};
-ghost use Rattle.dine_ffi.specs.Things.{HoldsPlan, HoldsWorld, OfHeld, OfPlan, OfWorld, OnPlan, StepsWorldOrRefuses};
-ghost use Rattle.dine_ffi.specs.Things.{WorldCall};
+ghost use Rattle.dine_ffi.specs.Contents.{HoldsPlan, HoldsWorld, OfHeld, OfPlan, OfWorld, OnPlan, StepsWorldOrRefuses};
+ghost use Rattle.dine_ffi.specs.Contents.{WorldCall};
 ghost use Rattle.dine_ffi.specs.Written.{ArePeriods};
 
+use crate::contents::{Contents, Object};
 use crate::event::DineEvent;
 use crate::handle::Handle;
 use crate::own_world::OwnWorld;
 use crate::plan_calls::open;
 use crate::status::{CLOSED, MEMORY, OPEN_ALREADY, OTHER_KIND};
-use crate::thing::{Kept, Thing};
 use std::alloc::Global;
 
 /// Opens the world of the plan that the handle `plan` holds. The handle `world`, which is closed, holds it then.
@@ -27,32 +27,32 @@ pub extern "C" fn dine_raw_world_open(alloc: Global, plan: &mut Handle, world: &
         (world.new.slot.held ≡ world.old.slot.held) }
     ensures open { world.old.slot.held ≢ None → result ≡ open_already }
     ensures refused { world.old.slot.held ≡ None → IsDoneOr result Unit
-        (OfHeld plan.old.slot.held result (λ kept. OfPlan kept result (λ _. result ≡ memory))) }
+        (OfHeld plan.old.slot.held result (λ object. OfPlan object result (λ _. result ≡ memory))) }
 {
     if world.is_open() {
         return OPEN_ALREADY;
     }
-    let Some(thing) = plan.take(alloc) else {
+    let Some(contents) = plan.take(alloc) else {
         return CLOSED;
     };
-    let answer = open_world(alloc, &thing, world);
-    plan.put(thing);
+    let answer = open_world(alloc, &contents, world);
+    plan.put(contents);
     answer
 }
 
-fn open_world(alloc: Global, thing: &Thing, handle: &mut Handle) -> i64
+fn open_world(alloc: Global, contents: &Contents, handle: &mut Handle) -> i64
     requires { handle.old.slot.held ≡ None }
     ensures world { IsOkOr result
-        (OnPlan (λ p. HoldsWorld (IsWorldOf p (start p)) handle.new.slot.held) thing.now.kept)
+        (OnPlan (λ p. HoldsWorld (IsWorldOf p (start p)) handle.new.slot.held) contents.now.object)
         (handle.new.slot.held ≡ handle.old.slot.held) }
-    ensures refused { IsDoneOr result Unit (OfPlan thing.now.kept result (λ _. result ≡ memory)) }
+    ensures refused { IsDoneOr result Unit (OfPlan contents.now.object result (λ _. result ≡ memory)) }
 {
-    match &thing.kept {
-        Kept::Plan(plan) => match OwnWorld::open(alloc, plan.plan()) {
-            Ok(world) => open(alloc, Kept::World(world), handle),
+    match &contents.object {
+        Object::Plan(plan) => match OwnWorld::open(alloc, plan.plan()) {
+            Ok(world) => open(alloc, Object::World(world), handle),
             Err(_) => MEMORY,
         },
-        Kept::World(_) | Kept::Site(_) | Kept::Builder(_) => OTHER_KIND,
+        Object::World(_) | Object::Site(_) | Object::Builder(_) => OTHER_KIND,
     }
 }
 
@@ -60,17 +60,17 @@ fn open_world(alloc: Global, thing: &Thing, handle: &mut Handle) -> i64
 #[unsafe(no_mangle)]
 pub extern "C" fn dine_raw_world_bound(alloc: Global, handle: &mut Handle) -> i64
     ensures same { handle.new.slot.held ≡ handle.old.slot.held }
-    ensures answer { OfHeld handle.old.slot.held result (λ kept. OfWorld kept result
+    ensures answer { OfHeld handle.old.slot.held result (λ object. OfWorld object result
         (λ w. ForEachWorld w (λ plan world. Reports result (bound_of plan)))) }
 {
-    let Some(thing) = handle.take(alloc) else {
+    let Some(contents) = handle.take(alloc) else {
         return CLOSED;
     };
-    let answer = match &thing.kept {
-        Kept::World(world) => world.bound(),
-        Kept::Plan(_) | Kept::Site(_) | Kept::Builder(_) => OTHER_KIND,
+    let answer = match &contents.object {
+        Object::World(world) => world.bound(),
+        Object::Plan(_) | Object::Site(_) | Object::Builder(_) => OTHER_KIND,
     };
-    handle.put(thing);
+    handle.put(contents);
     answer
 }
 
@@ -78,17 +78,17 @@ pub extern "C" fn dine_raw_world_bound(alloc: Global, handle: &mut Handle) -> i6
 #[unsafe(no_mangle)]
 pub extern "C" fn dine_raw_world_count(alloc: Global, handle: &mut Handle) -> i64
     ensures same { handle.new.slot.held ≡ handle.old.slot.held }
-    ensures answer { OfHeld handle.old.slot.held result (λ kept. OfWorld kept result
+    ensures answer { OfHeld handle.old.slot.held result (λ object. OfWorld object result
         (λ w. ForEachWorld w (λ plan world. result ≡ pos (length (enabled_events plan world))))) }
 {
-    let Some(thing) = handle.take(alloc) else {
+    let Some(contents) = handle.take(alloc) else {
         return CLOSED;
     };
-    let answer = match &thing.kept {
-        Kept::World(world) => world.count(),
-        Kept::Plan(_) | Kept::Site(_) | Kept::Builder(_) => OTHER_KIND,
+    let answer = match &contents.object {
+        Object::World(world) => world.count(),
+        Object::Plan(_) | Object::Site(_) | Object::Builder(_) => OTHER_KIND,
     };
-    handle.put(thing);
+    handle.put(contents);
     answer
 }
 
@@ -101,20 +101,20 @@ pub extern "C" fn dine_raw_world_enabled(
     out: &mut DineEvent,
 ) -> i64
     ensures same { handle.new.slot.held ≡ handle.old.slot.held }
-    ensures answer { OfHeld handle.old.slot.held result (λ kept. OfWorld kept result
+    ensures answer { OfHeld handle.old.slot.held result (λ object. OfWorld object result
         (λ w. ForEachWorld w (λ plan world. MatchOption (slice_get (enabled_events plan world) n)
         ((result ≡ no_such) × (out.new ≡ out.old)) (λ event. (result ≡ done)
         × (out.new ≡ seen_event event.site event.kind))))) }
     ensures unwritten { IsDoneOr result Unit (out.new ≡ out.old) }
 {
-    let Some(thing) = handle.take(alloc) else {
+    let Some(contents) = handle.take(alloc) else {
         return CLOSED;
     };
-    let answer = match &thing.kept {
-        Kept::World(world) => world.enabled(n, out),
-        Kept::Plan(_) | Kept::Site(_) | Kept::Builder(_) => OTHER_KIND,
+    let answer = match &contents.object {
+        Object::World(world) => world.enabled(n, out),
+        Object::Plan(_) | Object::Site(_) | Object::Builder(_) => OTHER_KIND,
     };
-    handle.put(thing);
+    handle.put(contents);
     answer
 }
 
@@ -126,14 +126,14 @@ pub extern "C" fn dine_raw_world_step(alloc: Global, handle: &mut Handle, event:
         (λ kind. StepsWorldOrRefuses (record { site = event.now.site; kind = kind }) result old new)) result
         handle.old.slot.held handle.new.slot.held }
 {
-    let Some(mut thing) = handle.take(alloc) else {
+    let Some(mut contents) = handle.take(alloc) else {
         return CLOSED;
     };
-    let answer = match &mut thing.kept {
-        Kept::World(world) => world.step(*event),
-        Kept::Plan(_) | Kept::Site(_) | Kept::Builder(_) => OTHER_KIND,
+    let answer = match &mut contents.object {
+        Object::World(world) => world.step(*event),
+        Object::Plan(_) | Object::Site(_) | Object::Builder(_) => OTHER_KIND,
     };
-    handle.put(thing);
+    handle.put(contents);
     answer
 }
 
@@ -144,14 +144,14 @@ pub extern "C" fn dine_raw_world_replay(alloc: Global, handle: &mut Handle, choi
         × ForEachWorld old (λ plan world. RunsTo plan (replay plan (from_here world) choices.now) events new)) result
         handle.old.slot.held handle.new.slot.held }
 {
-    let Some(mut thing) = handle.take(alloc) else {
+    let Some(mut contents) = handle.take(alloc) else {
         return CLOSED;
     };
-    let answer = match &mut thing.kept {
-        Kept::World(world) => world.replay(choices),
-        Kept::Plan(_) | Kept::Site(_) | Kept::Builder(_) => OTHER_KIND,
+    let answer = match &mut contents.object {
+        Object::World(world) => world.replay(choices),
+        Object::Plan(_) | Object::Site(_) | Object::Builder(_) => OTHER_KIND,
     };
-    handle.put(thing);
+    handle.put(contents);
     answer
 }
 
@@ -163,14 +163,14 @@ pub extern "C" fn dine_raw_world_finish(alloc: Global, handle: &mut Handle) -> i
         (λ plan world. RunsTo plan (finish_within (bound_of plan) plan (from_here world)) events new))) result
         handle.old.slot.held handle.new.slot.held }
 {
-    let Some(mut thing) = handle.take(alloc) else {
+    let Some(mut contents) = handle.take(alloc) else {
         return CLOSED;
     };
-    let answer = match &mut thing.kept {
-        Kept::World(world) => world.finish(),
-        Kept::Plan(_) | Kept::Site(_) | Kept::Builder(_) => OTHER_KIND,
+    let answer = match &mut contents.object {
+        Object::World(world) => world.finish(),
+        Object::Plan(_) | Object::Site(_) | Object::Builder(_) => OTHER_KIND,
     };
-    handle.put(thing);
+    handle.put(contents);
     answer
 }
 
@@ -178,18 +178,18 @@ pub extern "C" fn dine_raw_world_finish(alloc: Global, handle: &mut Handle) -> i
 #[unsafe(no_mangle)]
 pub extern "C" fn dine_raw_world_phase(alloc: Global, handle: &mut Handle, site: u32) -> i64
     ensures same { handle.new.slot.held ≡ handle.old.slot.held }
-    ensures answer { OfHeld handle.old.slot.held result (λ kept. OfWorld kept result
+    ensures answer { OfHeld handle.old.slot.held result (λ object. OfWorld object result
         (λ w. ForEachWorld w (λ plan world. MatchOption (slice_get world site) (result ≡ no_such)
         (λ state. result ≡ pos (number_of state.phase))))) }
 {
-    let Some(thing) = handle.take(alloc) else {
+    let Some(contents) = handle.take(alloc) else {
         return CLOSED;
     };
-    let answer = match &thing.kept {
-        Kept::World(world) => world.phase(site),
-        Kept::Plan(_) | Kept::Site(_) | Kept::Builder(_) => OTHER_KIND,
+    let answer = match &contents.object {
+        Object::World(world) => world.phase(site),
+        Object::Plan(_) | Object::Site(_) | Object::Builder(_) => OTHER_KIND,
     };
-    handle.put(thing);
+    handle.put(contents);
     answer
 }
 
@@ -197,18 +197,18 @@ pub extern "C" fn dine_raw_world_phase(alloc: Global, handle: &mut Handle, site:
 #[unsafe(no_mangle)]
 pub extern "C" fn dine_raw_world_ate(alloc: Global, handle: &mut Handle, site: u32) -> i64
     ensures same { handle.new.slot.held ≡ handle.old.slot.held }
-    ensures answer { OfHeld handle.old.slot.held result (λ kept. OfWorld kept result
+    ensures answer { OfHeld handle.old.slot.held result (λ object. OfWorld object result
         (λ w. ForEachWorld w (λ plan world. MatchOption (slice_get world site) (result ≡ no_such)
         (λ state. result ≡ pos state.ate)))) }
 {
-    let Some(thing) = handle.take(alloc) else {
+    let Some(contents) = handle.take(alloc) else {
         return CLOSED;
     };
-    let answer = match &thing.kept {
-        Kept::World(world) => world.ate(site),
-        Kept::Plan(_) | Kept::Site(_) | Kept::Builder(_) => OTHER_KIND,
+    let answer = match &contents.object {
+        Object::World(world) => world.ate(site),
+        Object::Plan(_) | Object::Site(_) | Object::Builder(_) => OTHER_KIND,
     };
-    handle.put(thing);
+    handle.put(contents);
     answer
 }
 
@@ -221,19 +221,19 @@ pub extern "C" fn dine_raw_world_fork(
     out: &mut [u32],
 ) -> i64
     ensures same { handle.new.slot.held ≡ handle.old.slot.held }
-    ensures answer { OfHeld handle.old.slot.held result (λ kept. OfWorld kept result
+    ensures answer { OfHeld handle.old.slot.held result (λ object. OfWorld object result
         (λ w. ForEachWorld w (λ plan world. MatchOption (slice_get (forks_seen plan world) edge)
         ((result ≡ no_such) × (out.new ≡ out.old)) (λ fork. ArePeriods fork out.old out.new result)))) }
     ensures unwritten { IsDoneOr result Unit (out.new ≡ out.old) }
 {
-    let Some(thing) = handle.take(alloc) else {
+    let Some(contents) = handle.take(alloc) else {
         return CLOSED;
     };
-    let answer = match &thing.kept {
-        Kept::World(world) => world.periods(edge, out),
-        Kept::Plan(_) | Kept::Site(_) | Kept::Builder(_) => OTHER_KIND,
+    let answer = match &contents.object {
+        Object::World(world) => world.periods(edge, out),
+        Object::Plan(_) | Object::Site(_) | Object::Builder(_) => OTHER_KIND,
     };
-    handle.put(thing);
+    handle.put(contents);
     answer
 }
 
@@ -241,17 +241,17 @@ pub extern "C" fn dine_raw_world_fork(
 #[unsafe(no_mangle)]
 pub extern "C" fn dine_raw_world_value(alloc: Global, handle: &mut Handle, edge: u32) -> i64
     ensures same { handle.new.slot.held ≡ handle.old.slot.held }
-    ensures answer { OfHeld handle.old.slot.held result (λ kept. OfWorld kept result
+    ensures answer { OfHeld handle.old.slot.held result (λ object. OfWorld object result
         (λ w. ForEachWorld w (λ plan world. MatchOption (slice_get (forks_seen plan world) edge)
         (result ≡ no_such) (λ fork. Reports result fork.value)))) }
 {
-    let Some(thing) = handle.take(alloc) else {
+    let Some(contents) = handle.take(alloc) else {
         return CLOSED;
     };
-    let answer = match &thing.kept {
-        Kept::World(world) => world.value(edge),
-        Kept::Plan(_) | Kept::Site(_) | Kept::Builder(_) => OTHER_KIND,
+    let answer = match &contents.object {
+        Object::World(world) => world.value(edge),
+        Object::Plan(_) | Object::Site(_) | Object::Builder(_) => OTHER_KIND,
     };
-    handle.put(thing);
+    handle.put(contents);
     answer
 }

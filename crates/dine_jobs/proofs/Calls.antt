@@ -3,8 +3,8 @@ use Rattle.std.proofs.Common.{◌≡◌, ℕ, Bool, true, false, not, List, [], 
 use Rattle.std.proofs.Math.Logic.{∥∥₁_map}
 use Rattle.std.proofs.lemmas.List.{map-append}
 use Rattle.std.proofs.lemmas.List.Elements.{filter-append}
-use Rattle.dine_site.specs.Diners.{meals_called}
-use Rattle.dine_site.specs.declared.diner.Call.{Call}
+use Rattle.dine_site_thread.specs.Diners.{meals_called}
+use Rattle.dine_site_thread.specs.declared.diner.Call.{Call}
 use Rattle.dine_jobs.specs.JobRuns.{HasRun, failed_numbers}
 
 pub run_more : {J : Type 0} (after : J → ℕ → Bool → J → Type 0) (first : J) (calls : List Call) (old : J) (call : Call) (new : J) → HasRun after first calls old → after old call.k call.ok new → HasRun after first (calls ++ call ∷ []) new

@@ -4,10 +4,10 @@ use Rattle.std.specs.Prelude.{vec_len}
 use Rattle.std.specs.Global.{Vec}
 use Rattle.std.proofs.lemmas.Bool.{eqb-false}
 use Rattle.dine_graph.specs.Plan.{SeenPlan, edge_count, edges_of, site_count}
-use Rattle.dine_site.specs.declared.diner.Diner as diners
-use Rattle.dine_site.specs.declared.manner.Manner.{Manner}
-use Rattle.dine_site.specs.declared.site_end.SiteFault.{SiteFault}
-use Rattle.dine_site.specs.declared.site_end.SiteFault.TheVariants as site_fault
+use Rattle.dine_site_thread.specs.declared.diner.Diner as diners
+use Rattle.dine_site_thread.specs.declared.manner.Manner.{Manner}
+use Rattle.dine_site_thread.specs.declared.site_end.SiteFault.{SiteFault}
+use Rattle.dine_site_thread.specs.declared.site_end.SiteFault.TheVariants as site_fault
 use Rattle.dine_threads.specs.Causes.{cause_of}
 use Rattle.dine_threads.specs.Headline.{FaultIs}
 use Rattle.dine_threads.specs.declared.causes.RunCause.{RunCause}

@@ -6,12 +6,12 @@ use Rattle.std.proofs.lemmas.Option.{none-some, same_Some, slice_get_within}
 use Rattle.std.proofs.lemmas.Simd.{map-map}
 use Rattle.dine_token.specs.Lawful.{count_from}
 use Rattle.dine_graph.specs.Plan.{SeenPlan, job_count, resigns, site_count}
-use Rattle.dine_site.proofs.shared.lists.Seen.{there_is}
-use Rattle.dine_site.specs.CallLogs.{SeenCallLog, no_calls}
-use Rattle.dine_site.specs.Diners.{HasLastFailed, ObeysFailures, meals_called}
-use Rattle.dine_site.specs.declared.diner.Call.{Call}
-use Rattle.dine_site.specs.declared.diner.Diner as diners
-use Rattle.dine_site.specs.declared.manner.Manner.{Manner}
+use Rattle.dine_site_thread.proofs.shared.lists.Seen.{there_is}
+use Rattle.dine_site_thread.specs.CallLogs.{SeenCallLog, no_calls}
+use Rattle.dine_site_thread.specs.Diners.{HasLastFailed, ObeysFailures, meals_called}
+use Rattle.dine_site_thread.specs.declared.diner.Call.{Call}
+use Rattle.dine_site_thread.specs.declared.diner.Diner as diners
+use Rattle.dine_site_thread.specs.declared.manner.Manner.{Manner}
 use Rattle.dine_threads.specs.Gathered.{AreFinishedOuts, AreOutsOf, IsFinishedOut, IsOutOf}
 use Rattle.dine_threads.specs.declared.gathered.SiteOut.{SiteOut}
 use Rattle.dine_jobs.specs.JobRuns.{AreDoneBy, HasRun, IsDoneBy, failed_numbers, numbers_of}

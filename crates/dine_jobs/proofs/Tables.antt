@@ -5,7 +5,7 @@ use Rattle.dine_token.specs.Fork.{SeenFork}
 use Rattle.dine_token.specs.Meal.{SeenMeal}
 use Rattle.dine_graph.specs.Plan.{SeenPlan, edge_count, edges_of}
 use Rattle.dine_graph.proofs.shared.PlaceLemmas.{positions_within}
-use Rattle.dine_site.specs.WholeMeals.{IsWholeIn, edge_of}
+use Rattle.dine_site_thread.specs.WholeMeals.{IsWholeIn, edge_of}
 
 -- what stands at a place, of a list that is made of another
 there_mapped : {X Y : Type 0} (f : X → Y) (xs : List X) (k : ℕ) (x : X) → slice_get xs k ≡ Some x → slice_get (map f xs) k ≡ Some (f x)

@@ -4,7 +4,7 @@ use Rattle.std.specs.Prelude.{◌≡◌, ◌≢◌, ◌<◌, ◌==◌, ◌++◌,
 use Rattle.std.specs.Fmt.{decimal}
 use Rattle.std.specs.Global.{Vec}
 use Rattle.dine_graph.specs.Plan.{SeenPlan, edge_count, edges_of, site_count}
-use Rattle.dine_site.specs.declared.site_end.SiteFault.TheVariants as site_fault
+use Rattle.dine_site_thread.specs.declared.site_end.SiteFault.TheVariants as site_fault
 use Rattle.dine_threads.specs.Causes.{cause_words}
 use Rattle.dine_threads.specs.declared.causes.RunCause.{RunCause}
 use Rattle.dine_threads.specs.declared.causes.RunCause.TheVariants as run_cause

@@ -4,10 +4,10 @@ use Rattle.std.specs.Global.{Vec}
 use Rattle.dine_token.specs.Lawful.{count_from}
 use Rattle.dine_graph.specs.Plan.{SeenPlan, edge_count, job_count, resigns, site_count}
 use Rattle.dine_link.specs.Links.{SeenLink}
-use Rattle.dine_site.specs.declared.manner.Manner.{Manner}
-use Rattle.dine_site.specs.Doings.{empty_checks_of}
-use Rattle.dine_site.specs.Diners.{HasLastFailed, ObeysFailures, meals_called}
-use Rattle.dine_site.specs.declared.diner.Call.{Call}
+use Rattle.dine_site_thread.specs.declared.manner.Manner.{Manner}
+use Rattle.dine_site_thread.specs.Doings.{empty_checks_of}
+use Rattle.dine_site_thread.specs.Diners.{HasLastFailed, ObeysFailures, meals_called}
+use Rattle.dine_site_thread.specs.declared.diner.Call.{Call}
 use Rattle.dine_threads.specs.Runs.{IsWholeRun}
 use Rattle.dine_jobs.specs.EdgeValues.{BelongInOrder}
 use Rattle.dine_jobs.specs.JobFaults.{AreAsMany}

@@ -3,7 +3,7 @@ use Rattle.std.specs.Prelude.{◌≡◌, ℕ, zero, suc, ◌+◌, Bool, List, ma
 use Rattle.std.specs.Borrow.{MutBor}
 use Rattle.std.specs.Global.{Vec}
 use Rattle.dine_graph.specs.Plan.{SeenPlan}
-use Rattle.dine_site.specs.declared.manner.Manner.TheVariants.{Patient}
+use Rattle.dine_site_thread.specs.declared.manner.Manner.TheVariants.{Patient}
 use Rattle.dine_jobs.specs.declared.done.JobsDone.{JobsDone}
 use Rattle.dine_jobs.specs.declared.done.SiteDone.{SiteDone}
 use Rattle.dine_jobs.specs.declared.edge_value.EdgeValue.{EdgeValue}

@@ -7,7 +7,7 @@ use crate::job::{Failure, Job};
 use dine_graph::{EdgeId, SiteId};
 use dine_link::EmptyChecks;
 use dine_rules::EventKind;
-use dine_site::{Call, CallLog};
+use dine_site_thread::{Call, CallLog};
 use dine_threads::RunCause;
 use dine_token::Fork;
 use std::alloc::{AllocError, Global};

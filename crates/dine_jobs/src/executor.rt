@@ -7,7 +7,7 @@ use crate::ticket::{Ticket, open_ticket};
 use crossbeam_channel::Sender;
 use dine_graph::{MAX_SITES, Plan, SiteId};
 use dine_link::Doorbell;
-use dine_site::JobFault;
+use dine_site_thread::JobFault;
 use std::alloc::{AllocError, Global};
 use std::collections::VecDeque;
 use std::mem;

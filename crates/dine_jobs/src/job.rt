@@ -1,7 +1,7 @@
 //! Jobs that share values with their neighbours.
 ghost use Rattle.std.specs.Prelude.{ℕ, Bool, is_ok};
 ghost use Rattle.dine_graph.specs.Plan.{SeenPlan};
-ghost use Rattle.dine_site.specs.WholeMeals.{IsOwnMeal, IsWhole};
+ghost use Rattle.dine_site_thread.specs.WholeMeals.{IsOwnMeal, IsWhole};
 
 use crate::table::Table;
 use std::sync::Wait;

@@ -3,7 +3,7 @@ ghost use Rattle.std.specs.Prelude.{◌≡◌, ◌+◌, ◌≤◌, IfOk, Some, f
 ghost use Rattle.std.specs.Prelude.{replicate, slice_get, vec_capacity, vec_len};
 ghost use Rattle.std.specs.Arc.{arc_value};
 ghost use Rattle.dine_graph.specs.Plan.{edge_count, job_count, site_count};
-ghost use Rattle.dine_site.specs.CallLogs.{no_calls};
+ghost use Rattle.dine_site_thread.specs.CallLogs.{no_calls};
 ghost use Rattle.dine_jobs.specs.JobRuns.{HasRun, failed_numbers, numbers_of};
 
 use crate::done::SiteDone;
@@ -14,7 +14,7 @@ use crate::values::Values;
 use dine_graph::{Plan, SiteId};
 use dine_link::EmptyChecks;
 use dine_rules::EventKind;
-use dine_site::{CallLog, Diner, JobFault};
+use dine_site_thread::{CallLog, Diner, JobFault};
 use dine_token::Meal;
 use std::alloc::{AllocError, Global};
 use std::marker::PhantomData;

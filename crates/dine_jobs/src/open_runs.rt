@@ -7,7 +7,7 @@ use crate::executor::{Executor, Task, Worker};
 use crate::runs::run_jobs_at;
 use dine_graph::Plan;
 use dine_link::RingLane;
-use dine_site::Manner;
+use dine_site_thread::Manner;
 use dine_threads::{DEFAULT_PATIENCE, RunOptions};
 use std::alloc::Global;
 use std::sync::Wait;

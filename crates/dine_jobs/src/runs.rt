@@ -15,7 +15,7 @@ use crate::job_diner::{JobDiner, open_diners};
 use crate::values::{Spare, Values};
 use dine_graph::Plan;
 use dine_link::{ChannelLane, Doorbell, Lane, RingLane};
-use dine_site::{Manner, SiteFault};
+use dine_site_thread::{Manner, SiteFault};
 use dine_threads::{Gathered, RunCause, RunFault, RunOptions, SiteOut, run_with_doorbells};
 use std::alloc::{AllocError, Global};
 use std::marker::Brand;

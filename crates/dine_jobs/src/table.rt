@@ -10,7 +10,7 @@ use crate::open_value::OpenValue;
 use crate::places::Place;
 use crate::values::Values;
 use dine_graph::{EdgeId, SiteId};
-use dine_site::JobFault;
+use dine_site_thread::JobFault;
 use dine_token::Meal;
 use std::error::Error;
 use std::fmt;

@@ -37,7 +37,7 @@ impl Job<()> for Third {
 }
 
 #[derive(Clone, Copy, Debug, PartialEq, Eq)]
-enum Told {
+enum Notice {
     Hungry(SiteId, u32),
     Begin(SiteId, u32),
     End(SiteId, u32, bool),
@@ -46,31 +46,31 @@ enum Told {
 // Notes all that it is told.
 #[derive(Drop)]
 struct Notes {
-    told: Vec<Told>,
+    told: Vec<Notice>,
 }
 
 impl Watch for Notes {
     fn hungry(&mut self, site: SiteId, k: u32) {
-        let _ = self.told.push(Told::Hungry(site, k));
+        let _ = self.told.push(Notice::Hungry(site, k));
     }
 
     fn begin(&mut self, site: SiteId, k: u32) {
-        let _ = self.told.push(Told::Begin(site, k));
+        let _ = self.told.push(Notice::Begin(site, k));
     }
 
     fn end(&mut self, site: SiteId, k: u32, ok: bool) {
-        let _ = self.told.push(Told::End(site, k, ok));
+        let _ = self.told.push(Notice::End(site, k, ok));
     }
 }
 
 // The watch of a site that did the jobs 1 to `meals` was told this, and no more.
-fn was_told(rt: &impl Abort, told: &[Told], site: SiteId, meals: u32) {
+fn was_told(rt: &impl Abort, told: &[Notice], site: SiteId, meals: u32) {
     let mut wanted = 0usize;
     for k in 1..meals.saturating_add(1) {
         let all = [
-            Told::Hungry(site, k),
-            Told::Begin(site, k),
-            Told::End(site, k, k % 3 != 0),
+            Notice::Hungry(site, k),
+            Notice::Begin(site, k),
+            Notice::End(site, k, k % 3 != 0),
         ];
         for want in all {
             same(rt, &told.get(wanted).copied(), &Some(want));

@@ -1,6 +1,6 @@
 -- What a log notes of a wait at a bell, and of a ring.
 use Rattle.std.specs.Prelude.{◌≡◌, ℕ, Bool, List, [], ◌∷◌, ◌++◌, Option, None, Some, if◌then◌else◌}
-use Rattle.dine_rules.specs.declared.letters.Kind4.{Kind4}
+use Rattle.dine_rules.specs.declared.letters.LetterKind.{LetterKind}
 use Rattle.dine_link.specs.declared.deed.Deed.{Deed}
 use Rattle.dine_link.specs.declared.deed.Deed.TheVariants.{Heard, Rang, Slept, Woke}
 use Rattle.dine_link.specs.declared.wants.Wants.{Wants}
@@ -24,11 +24,11 @@ waking place woken = if woken then Woke place ∷ [] else []
 
 -- what a thread does that rings at this place for a letter of this kind: it rings, and if the ring has to wake the bell
 -- there, it wakes its thread at once
-abbrev pub ringing : ℕ → Kind4 → Bool → List Deed
+abbrev pub ringing : ℕ → LetterKind → Bool → List Deed
 ringing place kind woken = Rang place kind woken ∷ waking place woken
 
 -- the log has further one ring at this place for a letter of this kind, and behind it that the thread there was woken,
 -- exactly if the ring had to wake it
-pub record HasRungFor (place : ℕ) (kind : Kind4) (old new : List Deed) : Type 0 where
+pub record HasRungFor (place : ℕ) (kind : LetterKind) (old new : List Deed) : Type 0 where
   pub woken : Bool
   pub deeds : new ≡ old ++ ringing place kind woken

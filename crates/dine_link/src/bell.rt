@@ -22,7 +22,7 @@ use crate::sleeper::{SleepState, Sleeper, Waker};
 use crate::thread_log::ThreadLog;
 use crate::wants::Wants;
 use crossbeam_channel::{Pass, RuledReceiver, RuledSender, TrySendError, bounded_with};
-use dine_rules::{Clock, Kind4};
+use dine_rules::{Clock, LetterKind};
 use std::alloc::{AllocError, Global};
 use std::marker::Model;
 use std::sync::{Arc, Wait};
@@ -374,7 +374,7 @@ impl Ringer {
     pub fn ring_for<R: Wait>(
         &mut self,
         rt: &R,
-        kind: Kind4,
+        kind: LetterKind,
         place: u32,
         log: &mut ThreadLog,
     ) -> Result<(), Lost>
@@ -395,7 +395,7 @@ impl Ringer {
     fn sound_or_wait<R: Wait>(
         &mut self,
         rt: &R,
-        kind: Kind4,
+        kind: LetterKind,
         place: u32,
         log: &mut ThreadLog,
     ) -> Result<bool, Lost>
@@ -430,7 +430,7 @@ impl Ringer {
     fn sound<R: Wait>(
         &mut self,
         rt: &R,
-        kind: Kind4,
+        kind: LetterKind,
         place: u32,
         log: &mut ThreadLog,
     ) -> Result<bool, TrySendError<u32>>
@@ -462,7 +462,7 @@ fn send_and_note<R: Wait>(
     pass: &mut Pass<u32, Part>,
     state: &mut SleepState,
     number: u32,
-    kind: Kind4,
+    kind: LetterKind,
     place: u32,
     log: &mut ThreadLog,
 ) -> Result<bool, TrySendError<u32>>
@@ -487,7 +487,7 @@ fn send_and_note<R: Wait>(
 
 // Ends the sleep of a bell whose ringer had to wait, whatever it wants, and returns whether it slept. The log notes the
 // ring, with what is returned.
-fn wake_and_note(state: &mut SleepState, kind: Kind4, place: u32, log: &mut ThreadLog) -> bool
+fn wake_and_note(state: &mut SleepState, kind: LetterKind, place: u32, log: &mut ThreadLog) -> bool
     ensures slept { result ≡ state.old.asleep }
     ensures awake { state.new.asleep ≡ false }
     ensures rang { log.new.deeds ≡ log.old.deeds ++ Rang place kind result ∷ [] }

@@ -15,7 +15,7 @@ use crate::thread_log::ThreadLog;
 use crate::wants::Wants;
 use crossbeam_channel::protocol::{Lesson, Outcome, Protocol};
 use crossbeam_channel::{Pass, RuledReceiver};
-use dine_rules::Kind4;
+use dine_rules::LetterKind;
 use std::alloc::{AllocError, Global};
 use std::sync::atomic::{AtomicU64, Ordering};
 use std::sync::{Arc, Mutex, Wait};
@@ -111,7 +111,7 @@ impl SleepState {
 
     // Notes a ring for a letter of that kind, and returns whether it wakes the bell. A ring that the bell wants does,
     // and so does the last one for which it has capacity: else a ringer could wait for capacity while the bell sleeps.
-    pub fn note(&mut self, number: u32, kind: Kind4) -> bool
+    pub fn note(&mut self, number: u32, kind: LetterKind) -> bool
         ensures woken { result
             ≡ (self.old.asleep && (wakes (seen_wants self.old.wants) number kind || nat_le self.old.room 1)) }
         ensures asleep { self.new.asleep ≡ (self.old.asleep && not result) }

@@ -3,7 +3,7 @@ ghost use Rattle.std.specs.Prelude.{◌≡◌, ◌<◌, None, Some};
 ghost use Rattle.dine_rules.specs.Wants.{is_wanted, still_wanted};
 ghost use Rattle.dine_link.specs.Waking.{seen_awaited, seen_wants, wakes, still_wants};
 
-use dine_rules::Kind4;
+use dine_rules::LetterKind;
 use dine_set::BitSet64;
 
 /// The rings that wake a bell: any ring, or those for the letters that a site waits for.
@@ -39,7 +39,7 @@ impl Wants {
     }
 
     // Returns whether a ring by that ringer for a letter of that kind wakes the bell.
-    pub fn has(&self, number: u32, kind: Kind4) -> bool
+    pub fn has(&self, number: u32, kind: LetterKind) -> bool
         ensures { result ≡ wakes (seen_wants self.now) number kind }
     {
         match &self.only {
@@ -49,7 +49,7 @@ impl Wants {
     }
 
     // Notes a letter of that kind that has arrived and does not wake the bell.
-    pub fn note(&mut self, kind: Kind4)
+    pub fn note(&mut self, kind: LetterKind)
         ensures { seen_wants self.new ≡ still_wants (seen_wants self.old) kind }
     {
         if let Some(awaited) = &mut self.only {
@@ -60,22 +60,22 @@ impl Wants {
 
 impl Awaited {
     // Returns whether a letter of that kind at the place is waited for.
-    fn has(&self, place: u32, kind: Kind4) -> bool
+    fn has(&self, place: u32, kind: LetterKind) -> bool
         requires { place < 64 }
         ensures { result ≡ is_wanted (seen_awaited self.now) place kind }
     {
         match kind {
-            Kind4::Request => self.requests.has(place),
-            Kind4::Fork => self.forks <= 1,
-            Kind4::Done | Kind4::Close => true,
+            LetterKind::Request => self.requests.has(place),
+            LetterKind::Fork => self.forks <= 1,
+            LetterKind::Done | LetterKind::Close => true,
         }
     }
 
     // Notes a letter of that kind that has arrived and is not waited for.
-    fn note(&mut self, kind: Kind4)
+    fn note(&mut self, kind: LetterKind)
         ensures { seen_awaited self.new ≡ still_wanted (seen_awaited self.old) kind }
     {
-        if kind == Kind4::Fork {
+        if kind == LetterKind::Fork {
             self.forks = self.forks.saturating_sub(1);
         }
     }

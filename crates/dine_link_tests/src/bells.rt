@@ -2,7 +2,7 @@
 use crate::asserts::same;
 use dine_link::testing::finds_asleep;
 use dine_link::{Bell, Lost, Ringer, ThreadLog, Wants};
-use dine_rules::Kind4;
+use dine_rules::LetterKind;
 use dine_set::BitSet64;
 use std::alloc::Global;
 use std::process::Abort;
@@ -120,9 +120,9 @@ fn ring_often<R: Wait>(rt: &R, ringer: &mut Ringer, times: u32, is_plain: bool) 
         let _ = if is_plain {
             ringer.ring(rt)
         } else if i == times || i % 3 == 0 {
-            ringer.ring_for(rt, Kind4::Done, 0, &mut ThreadLog::start())
+            ringer.ring_for(rt, LetterKind::Done, 0, &mut ThreadLog::start())
         } else {
-            ringer.ring_for(rt, Kind4::Request, 0, &mut ThreadLog::start())
+            ringer.ring_for(rt, LetterKind::Request, 0, &mut ThreadLog::start())
         };
     }
 }
@@ -310,7 +310,7 @@ fn falls_asleep<R: Wait>(rt: &R, ringers: &[Ringer]) -> bool {
 }
 
 // The ringer at that place rings for a letter of that kind.
-fn ring_for<R: Abort + Wait>(rt: &R, ringers: &mut Vec<Ringer>, place: usize, kind: Kind4) {
+fn ring_for<R: Abort + Wait>(rt: &R, ringers: &mut Vec<Ringer>, place: usize, kind: LetterKind) {
     let ringer = ringers.get_mut(place).expect(rt, "a ringer");
     let mut log = ThreadLog::start();
     same(rt, &ringer.ring_for(rt, kind, 0, &mut log), &Ok(()));
@@ -321,7 +321,7 @@ fn ring_for<R: Abort + Wait>(rt: &R, ringers: &mut Vec<Ringer>, place: usize, ki
 enum Step {
     // The ringer at that place rings, or rings for a letter of that kind.
     Ring(usize),
-    RingFor(usize, Kind4),
+    RingFor(usize, LetterKind),
     // The bell sleeps in time, or now.
     FallsAsleep,
     Sleeps,
@@ -369,16 +369,16 @@ where
 fn a_plain_wait_is_woken_by_each_ring(rt: HostRuntime) {
     let steps = [
         Step::FallsAsleep,
-        Step::RingFor(0, Kind4::Request),
+        Step::RingFor(0, LetterKind::Request),
         Step::Returned(1),
         Step::FallsAsleep,
-        Step::RingFor(1, Kind4::Fork),
+        Step::RingFor(1, LetterKind::Fork),
         Step::Returned(2),
         Step::FallsAsleep,
-        Step::RingFor(0, Kind4::Done),
+        Step::RingFor(0, LetterKind::Done),
         Step::Returned(3),
         Step::FallsAsleep,
-        Step::RingFor(1, Kind4::Close),
+        Step::RingFor(1, LetterKind::Close),
         Step::Returned(4),
         Step::FallsAsleep,
         Step::Ring(0),
@@ -390,9 +390,9 @@ fn a_plain_wait_is_woken_by_each_ring(rt: HostRuntime) {
 fn an_unwanted_ring_stays_until_a_wanted_one(rt: HostRuntime) {
     let steps = [
         Step::FallsAsleep,
-        Step::RingFor(0, Kind4::Request),
+        Step::RingFor(0, LetterKind::Request),
         Step::Sleeps,
-        Step::RingFor(1, Kind4::Request),
+        Step::RingFor(1, LetterKind::Request),
     ];
     hears(rt, rt.alloc(), 2, &steps, 2, 12);
 }
@@ -401,9 +401,9 @@ fn an_unwanted_ring_stays_until_a_wanted_one(rt: HostRuntime) {
 fn the_last_fork_wakes(rt: HostRuntime) {
     let steps = [
         Step::FallsAsleep,
-        Step::RingFor(1, Kind4::Fork),
+        Step::RingFor(1, LetterKind::Fork),
         Step::Sleeps,
-        Step::RingFor(0, Kind4::Fork),
+        Step::RingFor(0, LetterKind::Fork),
     ];
     hears(rt, rt.alloc(), 2, &steps, 2, 21);
 }
@@ -412,10 +412,10 @@ fn the_last_fork_wakes(rt: HostRuntime) {
 fn done_close_and_plain_rings_wake(rt: HostRuntime) {
     let steps = [
         Step::FallsAsleep,
-        Step::RingFor(0, Kind4::Done),
+        Step::RingFor(0, LetterKind::Done),
         Step::Returned(1),
         Step::FallsAsleep,
-        Step::RingFor(1, Kind4::Close),
+        Step::RingFor(1, LetterKind::Close),
         Step::Returned(2),
         Step::FallsAsleep,
         Step::Ring(0),
@@ -427,7 +427,7 @@ fn done_close_and_plain_rings_wake(rt: HostRuntime) {
 fn rings_are_returned_once_the_ringers_are_gone(rt: HostRuntime) {
     let steps = [
         Step::FallsAsleep,
-        Step::RingFor(0, Kind4::Request),
+        Step::RingFor(0, LetterKind::Request),
         Step::Sleeps,
         Step::Leave,
     ];
@@ -437,7 +437,7 @@ fn rings_are_returned_once_the_ringers_are_gone(rt: HostRuntime) {
 // Three unwanted rings are in the bell, and the fourth takes the last place.
 #[test]
 fn a_bell_wakes_before_it_is_full(rt: HostRuntime) {
-    let unwanted = Step::RingFor(0, Kind4::Request);
+    let unwanted = Step::RingFor(0, LetterKind::Request);
     let steps = [
         Step::FallsAsleep,
         unwanted,

@@ -9,7 +9,7 @@ mod waits;
 
 use crate::asserts::same;
 use dine_link::{ChannelLane, FaultLane, Lane, LinkFault, Lost, RingLane, TxEnd};
-use dine_rules::{Kind4, Letter};
+use dine_rules::{Letter, LetterKind};
 use dine_token::{Act, Fork, Held, Meal, Token};
 use exchange::exchange;
 use std::alloc::Global;
@@ -23,8 +23,8 @@ fn done_and_close<L: Lane, R: Wait + Abort>(rt: &R, alloc: Global) {
     let (mut tx, mut rx) = opened::<L>(rt, alloc, 5, 2);
     puts::<L, R>(rt, &mut tx, Letter::Done);
     let tx = closes::<L, R>(rt, tx);
-    takes::<L, R>(rt, &mut rx, (Kind4::Done, None));
-    takes::<L, R>(rt, &mut rx, (Kind4::Close, None));
+    takes::<L, R>(rt, &mut rx, (LetterKind::Done, None));
+    takes::<L, R>(rt, &mut rx, (LetterKind::Close, None));
     assert!(rt; L::is_closed(&rx));
     let wanted = Report {
         name: (5, 2),
@@ -45,7 +45,7 @@ fn done_and_close_go_over_a_link(rt: HostRuntime) {
 fn keeps_its_name<L: Lane, R: Wait + Abort>(rt: &R, alloc: Global, edge: u32, from: u32) {
     let (mut tx, mut rx) = opened::<L>(rt, alloc, edge, from);
     puts::<L, R>(rt, &mut tx, Letter::Request(Token::open(edge)));
-    takes::<L, R>(rt, &mut rx, (Kind4::Request, Some(edge)));
+    takes::<L, R>(rt, &mut rx, (LetterKind::Request, Some(edge)));
     let wanted = Report {
         name: (edge, from),
         count: (1, 1, false),
@@ -66,7 +66,7 @@ fn links_keep_high_names(rt: HostRuntime) {
 // `closes`.
 #[derive(Clone, Copy)]
 struct Sending {
-    kind: Kind4,
+    kind: LetterKind,
     letters: u32,
     closes: bool,
     // How many of them are taken.
@@ -90,8 +90,8 @@ fn sent_fork(rt: &impl Abort, alloc: Global, edge: u32, is_eaten: bool) -> Lette
 }
 
 // The letter of an edge. The forks of even edges were eaten with.
-fn sent(rt: &impl Abort, alloc: Global, kind: Kind4, edge: u32) -> Letter {
-    if kind == Kind4::Fork {
+fn sent(rt: &impl Abort, alloc: Global, kind: LetterKind, edge: u32) -> Letter {
+    if kind == LetterKind::Fork {
         sent_fork(rt, alloc, edge, edge % 2 == 0)
     } else {
         Letter::Request(Token::open(edge))
@@ -99,7 +99,7 @@ fn sent(rt: &impl Abort, alloc: Global, kind: Kind4, edge: u32) -> Letter {
 }
 
 // The letters of the edges 0 to count - 1.
-fn all_sent(rt: &impl Abort, alloc: Global, kind: Kind4, count: u32) -> Vec<Letter>
+fn all_sent(rt: &impl Abort, alloc: Global, kind: LetterKind, count: u32) -> Vec<Letter>
     ensures { vec_len result ≡ count }
 {
     let mut letters = Vec::with_capacity(alloc, count as usize).expect(rt, "memory");
@@ -112,7 +112,11 @@ fn all_sent(rt: &impl Abort, alloc: Global, kind: Kind4, count: u32) -> Vec<Lett
 // Checks that the letter is that of the edge, a fork with its log, or Close after all of them.
 fn came(rt: &impl Abort, letter: &Letter, sending: Sending, edge: u32) {
     let is_last = edge == sending.letters;
-    let kind = if is_last { Kind4::Close } else { sending.kind };
+    let kind = if is_last {
+        LetterKind::Close
+    } else {
+        sending.kind
+    };
     same(rt, &letter.kind(), &kind);
     match letter {
         Letter::Request(token) => same(rt, &token.edge(), &edge),
@@ -154,7 +158,7 @@ where
 #[test]
 fn two_threads_pass_requests_in_order(rt: HostRuntime) {
     let sending = Sending {
-        kind: Kind4::Request,
+        kind: LetterKind::Request,
         letters: 2000,
         closes: false,
         taken: 2000,
@@ -165,7 +169,7 @@ fn two_threads_pass_requests_in_order(rt: HostRuntime) {
 #[test]
 fn two_threads_pass_forks_with_their_logs(rt: HostRuntime) {
     let sending = Sending {
-        kind: Kind4::Fork,
+        kind: LetterKind::Fork,
         letters: 200,
         closes: false,
         taken: 200,
@@ -178,7 +182,7 @@ fn two_threads_pass_forks_with_their_logs(rt: HostRuntime) {
 #[test]
 fn two_threads_close_a_link_or_leave_letters(rt: HostRuntime) {
     let all = Sending {
-        kind: Kind4::Request,
+        kind: LetterKind::Request,
         letters: 20,
         closes: true,
         taken: 21,
@@ -186,7 +190,7 @@ fn two_threads_close_a_link_or_leave_letters(rt: HostRuntime) {
     goes_over_both(rt, rt.alloc(), all, (21, 21, true));
     goes_over::<FaultLane, HostRuntime>(rt, rt.alloc(), all, (21, 21, true));
     let one = Sending {
-        kind: Kind4::Request,
+        kind: LetterKind::Request,
         letters: 3,
         closes: false,
         taken: 1,

@@ -6,9 +6,9 @@ use Rattle.std.proofs.lemmas.List.FromFn.{get_or-map-range_with_len, length-map-
 use Rattle.std.proofs.lemmas.Option.{slice_get-get_or}
 use Rattle.dine_token.specs.Fork.{SeenFork}
 use Rattle.dine_graph.specs.Plan.{SeenPlan, edge_count, name_of}
-use Rattle.dine_core.specs.Outcomes.{with_outcomes}
-use Rattle.dine_core.specs.World.{WorldState}
-use Rattle.dine_core.specs.Worlds.{fork_seen, forks_seen}
+use Rattle.dine_world.specs.Outcomes.{with_outcomes}
+use Rattle.dine_world.specs.World.{WorldState}
+use Rattle.dine_world.specs.Worlds.{fork_seen, forks_seen}
 use Rattle.dine_log_text.specs.Logs.{edge_line, line_of_edge, value_text}
 
 -- an edge has its fork

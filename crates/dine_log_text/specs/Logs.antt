@@ -5,10 +5,10 @@ use Rattle.std.specs.List.{flat_map, range_with_len}
 use Rattle.dine_token.specs.declared.log_entry.Entry.{Entry}
 use Rattle.dine_token.specs.declared.log_entry.Entry.TheVariants.{Meal, Move}
 use Rattle.dine_graph.specs.Plan.{SeenPlan, edge_count, ends_of, name_of}
-use Rattle.dine_core.specs.Bound.{bound_of}
-use Rattle.dine_core.specs.Precedence.{fork_log}
-use Rattle.dine_core.specs.Values.{value_by}
-use Rattle.dine_core.specs.World.{WorldState}
+use Rattle.dine_world.specs.Bound.{bound_of}
+use Rattle.dine_world.specs.Precedence.{fork_log}
+use Rattle.dine_world.specs.Values.{value_by}
+use Rattle.dine_world.specs.World.{WorldState}
 
 -- the text before an entry: a space before the first entry of a line, and a comma and a space before each other one
 abbrev pub separator : Bool → List ℕ

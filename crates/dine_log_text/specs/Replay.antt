@@ -1,7 +1,7 @@
 -- What the command `replay` writes.
 use Rattle.std.specs.Prelude.{ℕ, List}
 use Rattle.dine_graph.specs.Plan.{SeenPlan}
-use Rattle.dine_core.specs.Schedules.{whole_run}
+use Rattle.dine_world.specs.Schedules.{whole_run}
 use Rattle.dine_log_text.specs.Logs.{world_text}
 
 -- the text of the plan's world after the choices were done one after the other, and then the first enabled event again

@@ -5,17 +5,17 @@ ghost use Rattle.dine_token.specs.declared.log_entry.Entry.TheVariants.{Move};
 ghost use Rattle.dine_token.specs.Periods.{meals_in};
 ghost use Rattle.std.specs.Fmt.{decimal};
 ghost use Rattle.dine_graph.specs.Plan.{name_of};
-ghost use Rattle.dine_core.specs.Outcomes.{with_outcomes};
-ghost use Rattle.dine_core.specs.World.{WorldState};
-ghost use Rattle.dine_core.specs.Worlds.{IsWorldOf};
+ghost use Rattle.dine_world.specs.Outcomes.{with_outcomes};
+ghost use Rattle.dine_world.specs.World.{WorldState};
+ghost use Rattle.dine_world.specs.Worlds.{IsWorldOf};
 ghost use Rattle.dine_log_text.specs.Logs.{edge_line, edge_lines, entries_text, events_line};
 ghost use Rattle.dine_log_text.specs.Logs.{separator, value_text, world_text};
 ghost use Rattle.dine_log_text.specs.private.MealTexts.{texts_of};
 
 use crate::logs::meal_texts::{MealTexts, push_meal, separator};
-use dine_core::World;
 use dine_graph::Plan;
 use dine_token::{Fork, Period};
+use dine_world::World;
 use std::alloc::{AllocError, Global};
 
 mod meal_texts;

@@ -3,8 +3,8 @@ ghost use Rattle.std.specs.Prelude.{◌≡◌, IfOk};
 ghost use Rattle.dine_log_text.specs.Replay.{replay_text};
 
 use crate::logs::world_text;
-use dine_core::{World, laws};
 use dine_graph::Plan;
+use dine_world::{World, laws};
 use std::alloc::{AllocError, Global};
 
 /// Returns the text of the plan's world after a whole run. The run does the choices one after the other, and skips a

@@ -8,7 +8,7 @@ use Rattle.dine_rules.specs.declared.events.Event.{Event}
 use Rattle.dine_rules.specs.declared.events.EventKind.{EventKind}
 use Rattle.dine_rules.specs.Journals.{IsOrderOf, IsPlacedToEnd, IsWholeOrder, journal_of, part_of}
 use Rattle.dine_rules.specs.World.{IsComplete, Reaches, WorldState, enabled_events}
-use Rattle.dine_core.specs.Worlds.{SeenWorld}
+use Rattle.dine_world.specs.Worlds.{SeenWorld}
 use Rattle.dine_order.specs.declared.orders.OrderFault.{OrderFault}
 use Rattle.dine_order.specs.declared.orders.OrderFault.TheVariants.{Memory}
 use Rattle.dine_order.specs.Orders.{HasNoOrder, IsNotClosed, IsStuckAt}

@@ -13,7 +13,7 @@ use Rattle.dine_rules.specs.Journals.{IsFrontOf, IsLowestFirst, OrdersGrow, can_
 use Rattle.dine_rules.specs.Local.{neighbour_at}
 use Rattle.dine_rules.specs.Steps.{IsPlaceWithin, Puts, shape_of}
 use Rattle.dine_rules.specs.World.{Reaches, WorldState, after_events, is_enabled, start, world_after}
-use Rattle.dine_core.specs.Worlds.{IsWorldOf, SeenWorld, WorldStep}
+use Rattle.dine_world.specs.Worlds.{IsWorldOf, SeenWorld, WorldStep}
 use Rattle.dine_order.specs.private.Searching.{AreCounts, IsFound, IsSearched, IsSearching, kind_at, receiver_by, receiver_of}
 use Rattle.dine_order.proofs.Sets.{first_is_in, last_cases, longer_front, none_below, nothing_in, past_full}
 

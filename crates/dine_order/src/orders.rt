@@ -11,9 +11,9 @@ ghost use Rattle.dine_order.specs.declared.orders.OrderFault.TheVariants.{CountD
 mod outcomes;
 mod placing;
 
-use dine_core::{Event, EventKind, World};
 use dine_graph::Plan;
 use dine_rules::laws;
+use dine_world::{Event, EventKind, World};
 use std::alloc::{AllocError, Global};
 use std::convert::AsSlice;
 use std::error::Error;

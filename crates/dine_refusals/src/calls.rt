@@ -1,14 +1,14 @@
 // Calls that allocate, and report it if an allocation fails.
 use crate::pair::pair;
-use dine_core::site::{fresh_forks, fresh_tokens};
-use dine_core::{SiteCore, World};
 use dine_link::{Bell, Lane};
 use dine_order::{OrderFault, order};
 use dine_plan::{PlanBuilder, PlanFault, read_plan};
-use dine_site::SiteFault;
+use dine_site_thread::SiteFault;
 use dine_test_diners::outcomes_of;
 use dine_test_plans::{HIGHER_JOURNAL, LOWER_JOURNAL, PAIR};
 use dine_token::Fork;
+use dine_world::site::{fresh_forks, fresh_tokens};
+use dine_world::{SiteCore, World};
 use std::alloc::{AllocError, Global};
 
 /// What a call returned.

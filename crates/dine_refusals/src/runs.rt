@@ -4,7 +4,7 @@ use crate::pair::pair;
 use dine::{PlanDiner, open_diners};
 use dine_jobs::{Job, JobsCause, Table, no_values, on_channels, on_rings};
 use dine_link::Lane;
-use dine_site::JobFault;
+use dine_site_thread::JobFault;
 use dine_threads::{Joined, RunCause, RunFault, run};
 use std::alloc::{AllocError, Global};
 use std::sync::Wait;

@@ -1,17 +1,17 @@
 // One site, whose links and bell are filled before it starts.
 ghost use Rattle.std.specs.Prelude.{◌≡◌, ◌<◌, ◌≤◌, ◌+◌, ◌^◌, false, All, IfOk, length, vec_len};
 ghost use Rattle.dine_link.specs.Links.{IsUnused};
-ghost use Rattle.dine_site.specs.Ports.{IsFreshPort, seen_ports};
+ghost use Rattle.dine_site_thread.specs.Ports.{IsFreshPort, seen_ports};
 
 use crate::pair::pair;
-use dine_core::SiteCore;
-use dine_core::site::{fresh_forks, fresh_tokens};
 use dine_link::{Bell, Lane, Ringer, TxEnd};
 use dine_plan::Plan;
-use dine_rules::{Kind4, Letter};
-use dine_site::{Port, SiteEnd, SiteFault, run_site};
+use dine_rules::{Letter, LetterKind};
+use dine_site_thread::{Port, SiteEnd, SiteFault, run_site};
 use dine_test_diners::Taster;
 use dine_token::Token;
+use dine_world::SiteCore;
+use dine_world::site::{fresh_forks, fresh_tokens};
 use std::alloc::{AllocError, Global};
 use std::io;
 use std::sync::Wait;
@@ -122,7 +122,7 @@ fn name_of(fault: Option<SiteFault>) -> &'static str {
 }
 
 // Takes the next letter and returns its kind. None if Close was taken before.
-fn next_kind<L: Lane, R: Wait>(rt: &R, letters: &mut L::Rx) -> Option<Kind4>
+fn next_kind<L: Lane, R: Wait>(rt: &R, letters: &mut L::Rx) -> Option<LetterKind>
     requires { length (L.seen_rx letters.old).letters < 2 ^ 61 }
     ensures { length (L.seen_rx letters.new).letters ≤ length (L.seen_rx letters.old).letters + 1 }
 {

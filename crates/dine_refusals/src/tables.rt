@@ -6,11 +6,11 @@ ghost use Rattle.dine_threads.specs.Tables.{IsGatheredOf};
 use crate::calls::Outcome;
 use crate::pair::pair;
 use dine::{PlanDiner, world_text, write_edges, write_sites};
-use dine_core::World;
 use dine_link::{Bell, EmptyChecks, ThreadLog};
 use dine_plan::Plan;
 use dine_threads::{EdgeRow, Gathered, SiteOut, SiteRow, edge_table, site_table};
 use dine_token::Fork;
+use dine_world::World;
 use std::alloc::{AllocError, Global};
 
 // Returns the outcome of a call that fails only if an allocation fails.

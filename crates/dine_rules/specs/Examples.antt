@@ -7,7 +7,7 @@ use Rattle.dine_token.specs.Fork.{SeenFork}
 use Rattle.dine_graph.specs.Plan.{SeenPlan, SeenSite, no_job, edge_count}
 use Rattle.dine_rules.specs.declared.events.Event.{Event}
 use Rattle.dine_rules.specs.declared.breach.Breach.{Breach}
-use Rattle.dine_rules.specs.declared.letters.Kind4.{Kind4}
+use Rattle.dine_rules.specs.declared.letters.LetterKind.{LetterKind}
 use Rattle.dine_rules.specs.declared.letters.Letter.TheVariants.{Done, Fork}
 use Rattle.dine_rules.specs.Letters.{kind_of}
 use Rattle.dine_rules.specs.Local.{LocalState, start_of, traffic_at}
@@ -77,7 +77,7 @@ abbrev pub preferred_at_end : SeenPlan → List ℕ → ℕ
 preferred_at_end plan choices = preferred_end plan (whole_run plan choices).world 0
 
 -- the kinds of the letters in the link to a site at place i, after the choices
-abbrev pub next_after : SeenPlan → List ℕ → ℕ → ℕ → List Kind4
+abbrev pub next_after : SeenPlan → List ℕ → ℕ → ℕ → List LetterKind
 next_after plan choices s i =
     let world = world_after_choices plan choices in
     map kind_of (drop (length (traffic_at (state_of world s) i).taken) (put_to plan world s i))

@@ -6,11 +6,11 @@ use Rattle.dine_token.specs.declared.log_entry.Entry.{Entry}
 use Rattle.dine_token.specs.Fork.{SeenFork}
 use Rattle.dine_rules.specs.declared.letters.Letter.{Letter}
 use Rattle.dine_rules.specs.declared.letters.Letter.TheVariants.{Fork, Request, Done, Close}
-use Rattle.dine_rules.specs.declared.letters.Kind4.{Kind4}
-use Rattle.dine_rules.specs.declared.letters.Kind4.TheVariants as kind
+use Rattle.dine_rules.specs.declared.letters.LetterKind.{LetterKind}
+use Rattle.dine_rules.specs.declared.letters.LetterKind.TheVariants as kind
 
 -- the kind of a letter, without its contents
-abbrev pub kind_of : Letter → Kind4
+abbrev pub kind_of : Letter → LetterKind
 kind_of (Fork fork) = kind.Fork
 kind_of (Request edge) = kind.Request
 kind_of Done = kind.Done

@@ -38,7 +38,7 @@ ghost use Rattle.dine_rules.specs.declared.letters.Letter.TheVariants.{Fork};
 ghost use Rattle.dine_rules.specs.declared.letters.Letter.TheVariants as letter;
 ghost use Rattle.dine_rules.specs.declared.events.EventKind.TheVariants.{Ask, Begin, Close, Done, End, Give, Hungry};
 ghost use Rattle.dine_rules.specs.declared.events.EventKind.TheVariants.{Quit, Take};
-ghost use Rattle.dine_rules.specs.declared.letters.Kind4.TheVariants as kind;
+ghost use Rattle.dine_rules.specs.declared.letters.LetterKind.TheVariants as kind;
 
 mod joined;
 mod journals;

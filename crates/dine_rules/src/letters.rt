@@ -18,7 +18,7 @@ pub enum Letter {
 
 /// The kind of a letter, without its contents.
 #[derive(Clone, Copy, Debug, PartialEq, Eq)]
-pub enum Kind4 {
+pub enum LetterKind {
     Fork,
     Request,
     Done,
@@ -29,14 +29,14 @@ impl Letter {
     ghost use Rattle.dine_rules.specs.Letters.{kind_of};
 
     /// Returns the kind of the letter.
-    pub fn kind(&self) -> Kind4
+    pub fn kind(&self) -> LetterKind
         ensures { result ≡ kind_of self.now }
     {
         match self {
-            Letter::Fork(_) => Kind4::Fork,
-            Letter::Request(_) => Kind4::Request,
-            Letter::Done => Kind4::Done,
-            Letter::Close => Kind4::Close,
+            Letter::Fork(_) => LetterKind::Fork,
+            Letter::Request(_) => LetterKind::Request,
+            Letter::Done => LetterKind::Done,
+            Letter::Close => LetterKind::Close,
         }
     }
 }

@@ -12,6 +12,6 @@ mod stamp;
 pub use breach::Breach;
 pub use clock::Clock;
 pub use events::{Event, EventKind};
-pub use letters::{Kind4, Letter};
+pub use letters::{Letter, LetterKind};
 pub use phase::Phase;
 pub use stamp::Stamp;

@@ -7,7 +7,7 @@ ghost use Rattle.dine_rules.specs.Journals.{IsOrderOf};
 ghost use Rattle.dine_rules.specs.World.{Reaches, WorldState};
 ghost use Rattle.dine_rules.specs.declared.events.Event.{Event};
 ghost use Rattle.dine_rules.specs.declared.events.EventKind.{EventKind};
-ghost use Rattle.dine_core.specs.Worlds.{forks_seen};
+ghost use Rattle.dine_world.specs.Worlds.{forks_seen};
 ghost use Rattle.dine_link.specs.Links.{SeenLink};
 ghost use Rattle.dine_threads.specs.Headline.{IsHeadline};
 ghost use Rattle.dine_threads.specs.Journals.{AreJournals, states_left};

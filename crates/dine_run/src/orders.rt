@@ -8,7 +8,7 @@ ghost use Rattle.dine_threads.specs.Journals.{HaveOrder};
 use dine_graph::Plan;
 use dine_order::{OrderFault, order};
 use dine_rules::{Event, laws};
-use dine_site::Diner;
+use dine_site_thread::Diner;
 use dine_threads::Gathered;
 use std::alloc::{AllocError, Global};
 

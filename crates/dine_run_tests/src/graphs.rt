@@ -1,12 +1,12 @@
 // Graphs, the plans of them, and what is left of a run on one: it is held against the graph, and each fork's log
 // against the rules, entry by entry.
 use crate::asserts::same;
-use dine_core::EventKind;
 use dine_link::LinkEnd;
 use dine_plan::{Plan, read_plan};
 use dine_run::{Call, SiteOut};
 use dine_test_diners::Taster;
 use dine_token::{Entry, Fork};
+use dine_world::EventKind;
 use std::alloc::{AllocError, Global};
 use std::process::Abort;
 

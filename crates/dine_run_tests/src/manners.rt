@@ -2,12 +2,12 @@
 use crate::asserts::same;
 use crate::graphs::*;
 use crate::links::{BOTH, Links};
-use dine_core::EventKind;
 use dine_link::{ChannelLane, RingLane};
 use dine_plan::read_plan;
 use dine_run::{RunFault, RunOptions, order_of, run_with};
 use dine_test_diners::{Taster, tasters};
 use dine_test_plans::PAIR;
+use dine_world::EventKind;
 use std::alloc::Global;
 use std::process::Abort;
 use std::sync::Wait;

@@ -2,13 +2,13 @@
 use crate::asserts::same;
 use crate::graphs::*;
 use crate::links::{BOTH, Links};
-use dine_core::{Event, EventKind, World};
 use dine_link::{ChannelLane, LinkEnd, RingLane};
 use dine_plan::{Plan, read_plan};
 use dine_run::{Gathered, SiteOut, order, run};
 use dine_test_diners::{Taster, outcomes_of, tasters};
 use dine_test_plans::{RESIGNING_PAIR, RING};
 use dine_token::Fork;
+use dine_world::{Event, EventKind, World};
 use std::alloc::Global;
 use std::process::Abort;
 use std::sync::Wait;

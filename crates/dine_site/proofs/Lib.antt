@@ -1,3 +1,3 @@
 pub mod shared
-pub mod lists
 pub mod one_site
+pub mod own_events

@@ -1,15 +1,3 @@
--- One site's loop: each event, each meal and each fault, and what it leaves.
-pub mod Turns
-pub mod Working
-pub mod Closes
-pub mod Meals
-pub mod Same
-pub mod PutOff
-pub mod WholeMeals
-pub mod Proceeding
-pub mod Ways
-pub mod Checks
-pub mod Stops
-pub mod Ends
-pub mod Times
-pub mod Saying
+-- One core: what is kept at its places stays sound, and its steps keep the streams.
+pub mod Sound
+pub mod CoreSteps

@@ -1,18 +1,10 @@
-//! One site on its thread: its diner, its ends of links, its loop from its first event to its last, and what it leaves.
-//! `dine_run` re-exports all of it.
+//! The code of the hygienic solution: one site, one local step at a time. The rules and their laws are those of
+//! `dine_rules`, which this crate re-exports.
 #![tactic(auto)]
 
-mod call_log;
-mod diner;
-pub mod laws;
-mod manner;
-mod port;
-mod site_end;
-mod site_loop;
+pub mod site;
+pub mod waking;
 
-pub use call_log::CallLog;
-pub use diner::{Call, Diner, JobFault};
-pub use manner::Manner;
-pub use port::Port;
-pub use site_end::{SiteEnd, SiteFault, Stray};
-pub use site_loop::{run_site, run_site_with};
+pub use dine_rules::{Breach, Event, EventKind, Letter, LetterKind, Phase, laws};
+pub use dine_set::BitSet64;
+pub use site::{DoneAndClose, Hands, Packed, Parts, SiteCore};

@@ -9,8 +9,8 @@ use Rattle.dine_token.specs.Log.{is_dirty}
 use Rattle.dine_graph.specs.Plan.{SeenPlan, edge_count, other_of}
 use Rattle.dine_rules.specs.World.{WorldState}
 use Rattle.dine_rules.specs.Precedence.{preferred_end, preferred_in}
-use Rattle.dine_core.specs.Whereabouts.{at_edge}
-use Rattle.dine_core.specs.Worlds.{fork_seen, forks_seen}
+use Rattle.dine_world.specs.Whereabouts.{at_edge}
+use Rattle.dine_world.specs.Worlds.{fork_seen, forks_seen}
 use Rattle.dine_states.specs.Orders.{ends_by_precedence}
 use Rattle.dine_states.proofs.Orders.{same}
 

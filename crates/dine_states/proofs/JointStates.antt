@@ -11,7 +11,7 @@ use Rattle.dine_rules.specs.Links.{forks_near, queue_to, tokens_near}
 use Rattle.dine_rules.specs.Local.{LocalState, edge_at, neighbour_at, traffic_at}
 use Rattle.dine_rules.specs.Streams.{KeepsStreamsAt, is_alternating, is_lower_at}
 use Rattle.dine_rules.specs.World.{WorldState, place_of, put_to, state_of}
-use Rattle.dine_core.specs.Worlds.{IsReached}
+use Rattle.dine_world.specs.Worlds.{IsReached}
 use Rattle.dine_rules.proofs.shared.lists.Counting.{forks_in-append, requests_in-append}
 use Rattle.dine_rules.proofs.shared.links.Links.{link_holds}
 use Rattle.dine_rules.proofs.shared.links.WorldStreams.{WorldKeeps, reached_kept}

@@ -15,10 +15,10 @@ use Rattle.dine_rules.specs.Local.{LocalState, is_eating, is_hungry, is_thinking
 use Rattle.dine_rules.specs.Steps.{Step, Hungry, Quit, after, may}
 use Rattle.dine_rules.specs.Streams.{KeepsStreams, KeepsStreamsAt}
 use Rattle.dine_rules.specs.World.{WorldState, is_enabled, local_after, no_state, place_of, state_of, step_of}
-use Rattle.dine_core.specs.declared.world.whereabouts.Whereabouts.{Whereabouts}
-use Rattle.dine_core.specs.declared.world.whereabouts.Whereabouts.TheVariants.{At, To}
-use Rattle.dine_core.specs.Whereabouts.{IsEndOf, IsThere, ReportsWhere, at_place, forks_at, holds_dirty, is_fork_dirty, is_place}
-use Rattle.dine_core.specs.Worlds.{IsReached}
+use Rattle.dine_world.specs.declared.world.whereabouts.Whereabouts.{Whereabouts}
+use Rattle.dine_world.specs.declared.world.whereabouts.Whereabouts.TheVariants.{At, To}
+use Rattle.dine_world.specs.Whereabouts.{IsEndOf, IsThere, ReportsWhere, at_place, forks_at, holds_dirty, is_fork_dirty, is_place}
+use Rattle.dine_world.specs.Worlds.{IsReached}
 use Rattle.dine_rules.proofs.shared.links.EdgeSums.{one_fork_of_edge, one_token_of_edge}
 use Rattle.dine_rules.proofs.shared.links.WorldStreams.{WorldKeeps, reached_kept}
 use Rattle.dine_states.specs.Ends.{IsEnd, is_at, is_going_to}

@@ -22,7 +22,7 @@ use Rattle.dine_rules.specs.Steps.{Step, is_ready, may, shape_of}
 use Rattle.dine_rules.specs.Steps as step
 use Rattle.dine_rules.specs.Streams.{KeepsStreams, is_orderly}
 use Rattle.dine_rules.specs.World.{WorldState, is_enabled, local_after, next_letter, put_to, state_of, step_of}
-use Rattle.dine_core.specs.Worlds.{IsReached}
+use Rattle.dine_world.specs.Worlds.{IsReached}
 use Rattle.dine_rules.proofs.shared.links.NextLetters.{in_order, reached_allowed}
 use Rattle.dine_rules.proofs.shared.links.WorldStreams.{reached_kept}
 use Rattle.dine_states.specs.declared.why.Reason.{Reason}

@@ -5,7 +5,7 @@ use Rattle.dine_graph.specs.Plan.{SeenPlan}
 use Rattle.dine_rules.specs.declared.events.Event.{Event}
 use Rattle.dine_rules.specs.Schedules.{Counted, from_here, replay, run_after, run_after_choice}
 use Rattle.dine_rules.specs.World.{WorldState, enabled_events, start}
-use Rattle.dine_core.specs.Worlds.{IsWorldOf, RunsTo}
+use Rattle.dine_world.specs.Worlds.{IsWorldOf, RunsTo}
 use Rattle.dine_states.specs.Schedules.{Chooses, IsScheduleOf, SeenSchedule, run_of}
 
 -- one choice more

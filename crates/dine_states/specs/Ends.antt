@@ -1,8 +1,8 @@
 -- The ends of the edges of a plan.
 use Rattle.std.specs.Prelude.{◌≡◌, ◌⊎◌, ℕ, ◌<◌, ◌==◌, Bool, false, true, Option, Some, None, length}
 use Rattle.dine_graph.specs.Plan.{SeenPlan, IsPlan, edge_count, edges_of, hi_of, is_end, lo_of, site_count}
-use Rattle.dine_core.specs.declared.world.whereabouts.Whereabouts.{Whereabouts}
-use Rattle.dine_core.specs.declared.world.whereabouts.Whereabouts.TheVariants.{At, To}
+use Rattle.dine_world.specs.declared.world.whereabouts.Whereabouts.{Whereabouts}
+use Rattle.dine_world.specs.declared.world.whereabouts.Whereabouts.TheVariants.{At, To}
 use Rattle.dine_rules.specs.Local.{edge_at, neighbour_at}
 use Rattle.dine_rules.specs.World.{place_of}
 use Rattle.dine_states.specs.declared.ends.End.{End}

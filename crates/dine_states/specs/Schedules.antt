@@ -4,7 +4,7 @@ use Rattle.std.specs.declared.alloc.Global.{Global}
 use Rattle.dine_graph.specs.Plan.{SeenPlan}
 use Rattle.dine_rules.specs.Schedules.{Counted, from_here, replay}
 use Rattle.dine_rules.specs.World.{enabled_events, start}
-use Rattle.dine_core.specs.Worlds.{RunsTo, SeenWorld}
+use Rattle.dine_world.specs.Worlds.{RunsTo, SeenWorld}
 use Rattle.dine_states.specs.declared.events.Enabled.{Enabled}
 
 -- a schedule: its world, the choices that were done, the event that was done last, and, for each site, those of its

@@ -1,8 +1,8 @@
 //! All events of a schedule, as JSON.
 
 use crate::events::Enabled;
-use dine_core::{EventKind, Kind4, World};
 use dine_graph::Plan;
+use dine_world::{EventKind, LetterKind, World};
 use serde::Serialize;
 use std::alloc::{AllocError, Global};
 
@@ -78,10 +78,10 @@ fn letter_for(enabled: Enabled) -> char {
         EventKind::Done(_) => 'd',
         EventKind::Close(_) => 'c',
         EventKind::Take(_) => match enabled.letter {
-            Some(Kind4::Fork) => 'G',
-            Some(Kind4::Request) => 'A',
-            Some(Kind4::Done) => 'D',
-            Some(Kind4::Close) | None => 'C',
+            Some(LetterKind::Fork) => 'G',
+            Some(LetterKind::Request) => 'A',
+            Some(LetterKind::Done) => 'D',
+            Some(LetterKind::Close) | None => 'C',
         },
     }
 }

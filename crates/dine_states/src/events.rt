@@ -2,11 +2,11 @@
 ghost use Rattle.std.specs.Prelude.{◌≡◌, IfSome, option_map, slice_get};
 ghost use Rattle.dine_rules.specs.Steps.{shape_of};
 ghost use Rattle.dine_rules.specs.World.{enabled_events};
-ghost use Rattle.dine_core.specs.Worlds.{ForEachWorld};
+ghost use Rattle.dine_world.specs.Worlds.{ForEachWorld};
 ghost use Rattle.dine_states.specs.private.ReasonsAtEnds.{event_place};
 
-use dine_core::{Event, EventKind, Kind4, World};
 use dine_graph::Plan;
+use dine_world::{Event, EventKind, LetterKind, World};
 use std::alloc::AllocError;
 
 /// An event that is enabled in a world, with what is reported of it, also after it was done.
@@ -16,7 +16,7 @@ pub struct Enabled {
     pub number: u32,
     pub event: Event,
     /// The letter that it takes or puts.
-    pub letter: Option<Kind4>,
+    pub letter: Option<LetterKind>,
     /// The number of the meal that it begins or ends.
     pub meal: Option<u32>,
     /// Whether it ends a meal that failed.
@@ -58,13 +58,13 @@ impl Enabled {
 }
 
 // The letter that the event takes or puts.
-fn letter_of(world: &World, event: Event) -> Option<Kind4> {
+fn letter_of(world: &World, event: Event) -> Option<LetterKind> {
     match event.kind {
         EventKind::Take(i) => world.letter_to(event.site, i, 0),
-        EventKind::Give(_) => Some(Kind4::Fork),
-        EventKind::Ask(_) => Some(Kind4::Request),
-        EventKind::Done(_) => Some(Kind4::Done),
-        EventKind::Close(_) => Some(Kind4::Close),
+        EventKind::Give(_) => Some(LetterKind::Fork),
+        EventKind::Ask(_) => Some(LetterKind::Request),
+        EventKind::Done(_) => Some(LetterKind::Done),
+        EventKind::Close(_) => Some(LetterKind::Close),
         EventKind::End | EventKind::Begin | EventKind::Quit | EventKind::Hungry => None,
     }
 }
@@ -150,12 +150,12 @@ pub fn name_of_kind(kind: EventKind) -> &'static str {
 }
 
 /// Returns the name of a kind of letters.
-pub fn name_of_letter(kind: Kind4) -> &'static str {
+pub fn name_of_letter(kind: LetterKind) -> &'static str {
     match kind {
-        Kind4::Fork => "fork",
-        Kind4::Request => "request",
-        Kind4::Done => "done",
-        Kind4::Close => "close",
+        LetterKind::Fork => "fork",
+        LetterKind::Request => "request",
+        LetterKind::Done => "done",
+        LetterKind::Close => "close",
     }
 }
 
@@ -182,12 +182,12 @@ pub fn rule_of(enabled: Enabled) -> &'static str {
 }
 
 // The rule of a Take of this letter.
-fn rule_of_take(letter: Option<Kind4>) -> &'static str {
+fn rule_of_take(letter: Option<LetterKind>) -> &'static str {
     match letter {
-        Some(Kind4::Fork) => "a fork that arrives is held, clean",
-        Some(Kind4::Request) => "a token that arrives is held",
-        Some(Kind4::Done) => "a neighbour that says done asks no more",
-        Some(Kind4::Close) => "a neighbour that closes sends nothing more",
+        Some(LetterKind::Fork) => "a fork that arrives is held, clean",
+        Some(LetterKind::Request) => "a token that arrives is held",
+        Some(LetterKind::Done) => "a neighbour that says done asks no more",
+        Some(LetterKind::Close) => "a neighbour that closes sends nothing more",
         None => "no letter is there",
     }
 }
@@ -247,12 +247,12 @@ fn push_meal(
 }
 
 // The words of a Take of this letter. The name of its sender follows them.
-fn words_of_take(letter: Option<Kind4>) -> &'static str {
+fn words_of_take(letter: Option<LetterKind>) -> &'static str {
     match letter {
-        Some(Kind4::Fork) => " takes the fork of ",
-        Some(Kind4::Request) => " takes the request of ",
-        Some(Kind4::Done) => " takes done of ",
-        Some(Kind4::Close) => " takes close of ",
+        Some(LetterKind::Fork) => " takes the fork of ",
+        Some(LetterKind::Request) => " takes the request of ",
+        Some(LetterKind::Done) => " takes done of ",
+        Some(LetterKind::Close) => " takes close of ",
         None => " takes nothing of ",
     }
 }

@@ -4,13 +4,13 @@ ghost use Rattle.std.specs.List.{range_with_len};
 ghost use Rattle.dine_graph.specs.Plan.{edge_count, other_of};
 ghost use Rattle.dine_rules.specs.World.{WorldState};
 ghost use Rattle.dine_rules.specs.Precedence.{IsAcyclic, preferred_end};
-ghost use Rattle.dine_core.specs.Whereabouts.{at_edge};
-ghost use Rattle.dine_core.specs.Worlds.{ForEachWorld, IsWorldOf};
+ghost use Rattle.dine_world.specs.Whereabouts.{at_edge};
+ghost use Rattle.dine_world.specs.Worlds.{ForEachWorld, IsWorldOf};
 ghost use Rattle.dine_states.specs.Orders.{IsOrder, all_by_precedence, is_behind, is_free};
 
-use dine_core::World;
 use dine_graph::Plan;
 use dine_rules::laws;
+use dine_world::World;
 use std::alloc::{AllocError, Global};
 
 /// Returns the end of the edge that has precedence: that where a clean fork is, or to which it is on its way, and else

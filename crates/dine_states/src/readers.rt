@@ -8,14 +8,14 @@ ghost use Rattle.dine_rules.specs.Links.{queue_to};
 ghost use Rattle.dine_rules.specs.Local as local;
 ghost use Rattle.dine_rules.specs.Local.{traffic_at};
 ghost use Rattle.dine_rules.specs.World.{WorldState, is_enabled, state_of};
-ghost use Rattle.dine_core.specs.Whereabouts.{said_in};
-ghost use Rattle.dine_core.specs.Worlds.{ForEachWorld, IsWorldOf};
+ghost use Rattle.dine_world.specs.Whereabouts.{said_in};
+ghost use Rattle.dine_world.specs.Worlds.{ForEachWorld, IsWorldOf};
 ghost use Rattle.dine_states.specs.Ends.{IsEnd, is_at, is_going_to};
 ghost use Rattle.dine_states.specs.Reasons.{is_waiting};
 
 use crate::ends::End;
-use dine_core::{Event, EventKind, Phase, Said, Whereabouts, World};
 use dine_graph::Plan;
+use dine_world::{DoneAndClose, Event, EventKind, Phase, Whereabouts, World};
 
 /// Returns whether the site is hungry.
 pub(crate) fn is_hungry(world: &World, site: u32) -> bool
@@ -200,14 +200,14 @@ pub(crate) fn holds_dirty_fork(plan: &Plan, world: &World, end: End) -> bool
 }
 
 /// Returns which of Done and Close the site at the end has put and taken.
-pub(crate) fn said_at(plan: &Plan, world: &World, end: End) -> Said
+pub(crate) fn said_at(plan: &Plan, world: &World, end: End) -> DoneAndClose
     requires { IsEnd plan.now end }
     ensures { (state : WorldState) → IsWorldOf plan.now state world.now
         → result ≡ said_in (traffic_at (state_of state end.site) end.place) }
 {
     match world.said(end.site, end.place) {
         Some(said) => said,
-        None => Said {
+        None => DoneAndClose {
             done_put: false,
             done_taken: false,
             close_put: false,

@@ -4,8 +4,8 @@ ghost use Rattle.dine_states.specs.Schedules.{Chooses, IsScheduleOf, lists_of};
 
 use crate::events::Enabled;
 use crate::state::state_of;
-use dine_core::World;
 use dine_graph::Plan;
+use dine_world::World;
 use std::alloc::{AllocError, Global};
 use std::marker::Model;
 

@@ -6,14 +6,14 @@ ghost use Rattle.dine_rules.specs.Letters.{forks_in};
 ghost use Rattle.dine_rules.specs.Links.{queue_to};
 ghost use Rattle.dine_rules.specs.Steps.{is_ready};
 ghost use Rattle.dine_rules.specs.World.{WorldState, place_of, state_of};
-ghost use Rattle.dine_core.specs.Worlds.{IsWorldOf};
+ghost use Rattle.dine_world.specs.Worlds.{IsWorldOf};
 ghost use Rattle.dine_states.specs.Ends.{IsEnd};
 ghost use Rattle.dine_states.specs.Waits.{AddsWait, IsWait, keeps_by, places_waited};
 
 use crate::ends::End;
 use crate::readers::{holds_fork, holds_token, is_dirty, is_eating, is_fork_coming, is_hungry};
-use dine_core::World;
 use dine_graph::Plan;
+use dine_world::World;
 use std::alloc::{AllocError, Global};
 
 /// Why an edge keeps a hungry site from eating.

@@ -3,7 +3,7 @@ ghost use Rattle.std.specs.Prelude.{◌≡◌, ◌<◌, not, is_some, false, tru
 ghost use Rattle.std.specs.List.{find, list_any};
 ghost use Rattle.dine_graph.specs.Plan.{site_count};
 ghost use Rattle.dine_rules.specs.World.{WorldState, is_enabled};
-ghost use Rattle.dine_core.specs.Worlds.{IsWorldOf};
+ghost use Rattle.dine_world.specs.Worlds.{IsWorldOf};
 ghost use Rattle.dine_states.specs.Ends.{IsEnd};
 ghost use Rattle.dine_states.specs.Reasons.{is_event, reasons_of, why_not};
 ghost use Rattle.dine_states.specs.private.ReasonsAtEnds.{IsEndFor, holds_at, is_of_place};
@@ -15,8 +15,8 @@ use crate::readers::{
     is_hungry, is_waiting, must_quit, said_at,
 };
 use Reason::*;
-use dine_core::{Event, EventKind, World};
 use dine_graph::Plan;
+use dine_world::{Event, EventKind, World};
 
 /// Why an event is not enabled. Each kind of events has some of these reasons, in the order of docs/STATES.md.
 #[derive(Clone, Copy, Debug, PartialEq, Eq)]

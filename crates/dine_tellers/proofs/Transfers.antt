@@ -6,9 +6,9 @@ use Rattle.dine_token.specs.Lawful.{count_from}
 use Rattle.dine_graph.specs.Plan.{SeenPlan, job_count}
 use Rattle.dine_run.specs.CallLogs.{SeenCallLog}
 use Rattle.dine_run.specs.Diners.{HasEaten, HasLastFailed}
-use Rattle.dine_site.specs.declared.manner.Manner.TheVariants.{Eager}
+use Rattle.dine_site_thread.specs.declared.manner.Manner.TheVariants.{Eager}
 use Rattle.dine_run.specs.Gathered.{AreFinishedOuts, AreOutsOf}
-use Rattle.dine_site.specs.declared.diner.Call.{Call}
+use Rattle.dine_site_thread.specs.declared.diner.Call.{Call}
 use Rattle.dine_threads.specs.declared.gathered.SiteOut.{SiteOut}
 use Rattle.dine_tellers.specs.Tellers.{AreFresh, HaveSent}
 use Rattle.dine_tellers.specs.declared.teller.Teller.{Teller}

@@ -29,7 +29,7 @@ use anyhow::{Result, bail};
 use dine_link::ChannelLane;
 use dine_plan::{Plan, read_plan};
 use dine_run::{Gathered, SiteOut, order_of, run};
-use dine_site_core::{Event, EventKind};
+use dine_site::{Event, EventKind};
 use dine_token::MAX_JOBS;
 use std::alloc::{AllocError, Global};
 use std::sync::Wait;

@@ -1,10 +1,10 @@
 //! The diner, one for each site of a plan, and the outcomes of its jobs.
 ghost use Rattle.std.specs.Prelude.{◌≡◌, ◌≤◌, ◌∷◌, [], Some, true, length, slice_get, IfOk};
 ghost use Rattle.dine_graph.specs.Plan.{job_count};
-ghost use Rattle.dine_core.specs.Worlds.{AreOutcomesFor, lists_of};
+ghost use Rattle.dine_world.specs.Worlds.{AreOutcomesFor, lists_of};
 
 use dine_plan::Plan;
-use dine_site::{CallLog, Diner, JobFault};
+use dine_site_thread::{CallLog, Diner, JobFault};
 use dine_token::Meal;
 use std::alloc::{AllocError, Global};
 

@@ -3,7 +3,7 @@ use crate::asserts::same;
 use dine::{Fault, Status, exit_of};
 use dine_plan::PlanFault;
 use dine_rules::Breach;
-use dine_site::SiteFault;
+use dine_site_thread::SiteFault;
 use dine_threads::RunCause;
 use std::alloc::Global;
 use std::io;

@@ -3,7 +3,7 @@ use crate::asserts::same;
 use dine::{PlanDiner, open_diners};
 use dine_link::RingLane;
 use dine_plan::read_plan;
-use dine_site::Call;
+use dine_site_thread::Call;
 use dine_threads::{Gathered, SiteOut, run};
 use std::alloc::Global;
 use std::process::Abort;

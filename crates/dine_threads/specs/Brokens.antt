@@ -12,9 +12,9 @@ use Rattle.dine_rules.specs.Values.{value_by}
 use Rattle.dine_rules.specs.World.{place_of}
 use Rattle.dine_link.specs.Links.{SeenLink}
 use Rattle.dine_threads.specs.declared.gathered.SiteOut.{SiteOut}
-use Rattle.dine_site.specs.declared.manner.Manner.{Manner}
-use Rattle.dine_site.specs.declared.site_end.SiteFault.TheVariants as fault
-use Rattle.dine_site.specs.Endings.{Ending, HasEnded, OnLinks}
+use Rattle.dine_site_thread.specs.declared.manner.Manner.{Manner}
+use Rattle.dine_site_thread.specs.declared.site_end.SiteFault.TheVariants as fault
+use Rattle.dine_site_thread.specs.Endings.{Ending, HasEnded, OnLinks}
 use Rattle.dine_threads.specs.Gathered.{link_from_high, link_from_low}
 
 module _ (plan : SeenPlan) (states : ℕ → LocalState) where

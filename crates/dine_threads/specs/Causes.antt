@@ -1,14 +1,14 @@
 -- Why a run gathered nothing, or not all, and the words for the cause.
 use Rattle.std.specs.Prelude.{ℕ, List, ◌++◌, codes, option_and_then, slice_get, unwrap_or}
 use Rattle.std.specs.Fmt.{decimal}
-use Rattle.dine_site.specs.FaultWords.{site_fault_words}
+use Rattle.dine_site_thread.specs.FaultWords.{site_fault_words}
 use Rattle.dine_threads.specs.declared.causes.RunCause.{RunCause}
 use Rattle.dine_threads.specs.declared.causes.RunCause.TheVariants as cause
 use Rattle.dine_threads.specs.declared.gathered.RunFault.{RunFault}
 use Rattle.dine_threads.specs.declared.gathered.RunFault.TheVariants as run
 use Rattle.dine_threads.specs.declared.gathered.SiteOut.{SiteOut}
-use Rattle.dine_site.specs.declared.site_end.SiteFault.{SiteFault}
-use Rattle.dine_site.specs.declared.site_end.SiteFault.TheVariants as site_fault
+use Rattle.dine_site_thread.specs.declared.site_end.SiteFault.{SiteFault}
+use Rattle.dine_site_thread.specs.declared.site_end.SiteFault.TheVariants as site_fault
 
 -- the fault that a site ended with; a site without a fault, which `run` never reports as broken, counts as not started
 abbrev pub fault_at : {D : Type 0} → List (SiteOut D) → ℕ → SiteFault

@@ -6,11 +6,11 @@ use Rattle.dine_rules.specs.Local.{Traffic}
 use Rattle.dine_rules.specs.Streams.{is_close_last, IsClosedInOrder}
 use Rattle.dine_link.specs.Links.{SeenLink, IsLink}
 use Rattle.dine_threads.specs.declared.gathered.SiteOut.{SiteOut}
-use Rattle.dine_site.specs.declared.manner.Manner.{Manner}
-use Rattle.dine_site.specs.Doings.{empty_checks_of}
-use Rattle.dine_site.specs.Threads.{HasWorkedToEnd}
-use Rattle.dine_site.specs.Diners.{HasEaten, ObeysFailures, shows_quit}
-use Rattle.dine_site.specs.declared.diner.Diner as diners
+use Rattle.dine_site_thread.specs.declared.manner.Manner.{Manner}
+use Rattle.dine_site_thread.specs.Doings.{empty_checks_of}
+use Rattle.dine_site_thread.specs.Threads.{HasWorkedToEnd}
+use Rattle.dine_site_thread.specs.Diners.{HasEaten, ObeysFailures, shows_quit}
+use Rattle.dine_site_thread.specs.declared.diner.Diner as diners
 
 -- the link past the end of the list
 abbrev pub no_link : SeenLink

@@ -20,8 +20,8 @@ use Rattle.dine_threads.specs.declared.gathered.RunFault.{RunFault}
 use Rattle.dine_threads.specs.declared.gathered.RunFault.TheVariants.{DinersDiffer, Memory, Thread, Broken}
 use Rattle.dine_threads.specs.Brokens.{AllClosedEarly, AreStatesLeft}
 use Rattle.dine_threads.specs.Gathered.{AreLinksOf, AreOutsOf, IsTakenInOrder, IsClosedWhole, IsLowestFault, low_traffic, high_traffic, traffic_of}
-use Rattle.dine_site.specs.declared.manner.Manner.{Manner}
-use Rattle.dine_site.specs.declared.diner.Diner as diners
+use Rattle.dine_site_thread.specs.declared.manner.Manner.{Manner}
+use Rattle.dine_site_thread.specs.declared.diner.Diner as diners
 
 -- All sites have joined: there are two links for each edge, from each link the letters were taken in order, and what
 -- each end put is in order.

@@ -10,8 +10,8 @@ use Rattle.dine_rules.specs.Local.{LocalState}
 use Rattle.dine_rules.specs.Shown.{plan_shown}
 use Rattle.dine_rules.specs.World.{WorldState}
 use Rattle.dine_link.specs.Links.{SeenLink}
-use Rattle.dine_site.specs.declared.manner.Manner.{Manner}
-use Rattle.dine_site.specs.Doings.{HasActed}
+use Rattle.dine_site_thread.specs.declared.manner.Manner.{Manner}
+use Rattle.dine_site_thread.specs.Doings.{HasActed}
 use Rattle.dine_threads.specs.Gathered.{traffic_of}
 use Rattle.dine_threads.specs.Headline.{ate_of}
 

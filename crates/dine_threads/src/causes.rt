@@ -3,7 +3,7 @@ ghost use Rattle.std.specs.Prelude.{◌≡◌, Some};
 ghost use Rattle.dine_threads.specs.Causes.{cause_of, cause_words};
 
 use crate::gathered::RunFault;
-use dine_site::{Diner, SiteFault};
+use dine_site_thread::{Diner, SiteFault};
 use std::error::Error;
 use std::fmt;
 

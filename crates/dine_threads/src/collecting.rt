@@ -13,7 +13,7 @@ use crate::gathered::SiteOut;
 use crate::slots::{EdgePair, fill_row, pair_up};
 use dine_graph::Plan;
 use dine_link::{Lane, LinkEnd};
-use dine_site::{Diner, Port, SiteEnd};
+use dine_site_thread::{Diner, Port, SiteEnd};
 use dine_token::Fork;
 use std::alloc::{AllocError, Global};
 

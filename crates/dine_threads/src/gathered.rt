@@ -1,7 +1,7 @@
 //! What is gathered when all sites have joined, and why there may be nothing to gather.
 use dine_link::{EmptyChecks, LinkEnd, ThreadLog};
 use dine_rules::EventKind;
-use dine_site::{Diner, SiteFault, Stray};
+use dine_site_thread::{Diner, SiteFault, Stray};
 use dine_token::{Fork, Token};
 use std::convert::AsSlice;
 

@@ -7,14 +7,14 @@ ghost use Rattle.dine_threads.specs.private.Openings.{AreNewPorts, ArePlaced, Ar
 ghost use Rattle.dine_threads.specs.private.Openings.{HaveNoPort, HavePorts, bells_of, rows_of};
 ghost use Rattle.std.specs.List.{range_with_len};
 ghost use Rattle.dine_link.specs.Bells.{new_bell, new_ringer};
-ghost use Rattle.dine_site.specs.Ports.{seen_port};
+ghost use Rattle.dine_site_thread.specs.Ports.{seen_port};
 ghost use Rattle.dine_threads.specs.private.Spots.{AreFull, IsFullRow};
 ghost use Rattle.dine_threads.specs.private.Wirings.{AreRingersAt, AreRung, AreWired};
 
 use crate::slots::{EdgePair, fill_row, pair_up};
 use dine_graph::Plan;
 use dine_link::{Bell, Lane, Ringer, TxEnd};
-use dine_site::Port;
+use dine_site_thread::Port;
 use std::alloc::{AllocError, Global};
 
 // The ports and the bell of a site, before it gets its core.

@@ -3,7 +3,7 @@ ghost use Rattle.std.specs.Prelude.{◌≡◌};
 ghost use Rattle.dine_graph.specs.declared.limits.TheConstants.{MAX_SITES};
 
 use dine_graph::MAX_SITES;
-use dine_site::Manner;
+use dine_site_thread::Manner;
 
 /// The patience of a run whose options nobody has chosen. With it short jobs take about the time that they take under
 /// fair locks, and a neighbour that has rung waits for at most this number of meals.

@@ -4,19 +4,19 @@ ghost use Rattle.std.specs.Prelude.{length, map, slice_get, vec_len, vec_capacit
 ghost use Rattle.std.specs.List.{AllZip};
 ghost use Rattle.dine_graph.specs.declared.limits.TheConstants.{MAX_SITES};
 ghost use Rattle.dine_graph.specs.Plan.{SeenPlan, job_count, site_count};
-ghost use Rattle.dine_site_core.specs.Standing.{IsFresh, IsFreshFor};
-ghost use Rattle.dine_site.specs.Diners.{HasEaten, ObeysFailures};
-ghost use Rattle.dine_site.specs.Ports.{IsFreshPort, seen_ports};
+ghost use Rattle.dine_site.specs.Standing.{IsFresh, IsFreshFor};
+ghost use Rattle.dine_site_thread.specs.Diners.{HasEaten, ObeysFailures};
+ghost use Rattle.dine_site_thread.specs.Ports.{IsFreshPort, seen_ports};
 ghost use Rattle.dine_threads.specs.private.Openings.{HavePorts};
 ghost use Rattle.dine_threads.specs.private.SiteStarts.{AreStartsOf, IsReady, IsEndOf, given_to};
-ghost use Rattle.dine_site.specs.SiteEnds.{IsLeft, seen_site_end};
+ghost use Rattle.dine_site_thread.specs.SiteEnds.{IsLeft, seen_site_end};
 
 use crate::opening::SitePorts;
 use dine_graph::Plan;
 use dine_link::{Bell, Doorbell, Gate, Lane, Ringer, ThreadLog};
 use dine_rules::{Clock, laws};
-use dine_site::{Diner, Manner, Port, SiteEnd, SiteFault, run_site_with};
-use dine_site_core::{Packed, SiteCore, site};
+use dine_site::{Packed, SiteCore, site};
+use dine_site_thread::{Diner, Manner, Port, SiteEnd, SiteFault, run_site_with};
 use std::alloc::{AllocError, Global};
 use std::snapshot::Snapshot;
 use std::sync::{Arc, Wait};

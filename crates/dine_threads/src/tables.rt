@@ -4,7 +4,7 @@ ghost use Rattle.dine_threads.specs.Tables.{IsGatheredOf, edge_rows, site_rows};
 
 use crate::gathered::Gathered;
 use dine_graph::Plan;
-use dine_site::Diner;
+use dine_site_thread::Diner;
 use std::alloc::{AllocError, Global};
 
 /// How often the ends of an edge ate with its fork: the number of the edge, from 0 to 511, its ends, the lower site

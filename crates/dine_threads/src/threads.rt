@@ -14,7 +14,7 @@ use crate::starts::{Child, SiteStart, join_all, prepare_all, start_all};
 use dine_graph::Plan;
 use dine_link::{Doorbell, Gate, Lane, Signal};
 use dine_rules::laws;
-use dine_site::{Diner, Manner, SiteEnd};
+use dine_site_thread::{Diner, Manner, SiteEnd};
 use std::alloc::{AllocError, Global};
 use std::sync::{Arc, Wait};
 use std::thread::Threads;

@@ -7,7 +7,7 @@ use Rattle.dine_rules.specs.declared.events.Event.{Event}
 use Rattle.dine_rules.specs.Schedules.{Counted, from_here, replay, run_after, run_after_choice}
 use Rattle.dine_rules.specs.World.{WorldState, after_events, enabled_events, is_enabled, start, world_after}
 use Rattle.dine_rules.proofs.shared.lists.Options.{and_then_parts}
-use Rattle.dine_core.specs.Worlds.{IsWorldOf, SeenWorld, WorldSteps}
+use Rattle.dine_world.specs.Worlds.{IsWorldOf, SeenWorld, WorldSteps}
 
 -- The choices led from the start to this world, one event each, and the rest of the events leads to the end.
 pub record GoesThrough (plan : SeenPlan) (events rest : List Event) (end : WorldState) (choices : List ℕ) (seen : SeenWorld) : Type 0 where

@@ -6,8 +6,8 @@ use Rattle.dine_rules.specs.declared.events.Event.{Event}
 use Rattle.dine_rules.specs.Journals.{IsWholeOrder}
 use Rattle.dine_rules.specs.Schedules.{from_here, replay}
 use Rattle.dine_rules.specs.World.{start}
-use Rattle.dine_core.specs.Worlds.{forks_seen}
-use Rattle.dine_site.specs.declared.manner.Manner.TheVariants.{Eager}
+use Rattle.dine_world.specs.Worlds.{forks_seen}
+use Rattle.dine_site_thread.specs.declared.manner.Manner.TheVariants.{Eager}
 use Rattle.dine_threads.specs.declared.gathered.Gathered.{Gathered}
 use Rattle.dine_threads.specs.declared.gathered.SiteOut.{SiteOut}
 use Rattle.dine_threads.specs.Runs.{IsRun}

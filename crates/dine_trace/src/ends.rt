@@ -1,8 +1,8 @@
 //! What each end of each edge of a world is.
 
-use dine_core::{Whereabouts, World};
 use dine_plan::Plan;
 use dine_states::{name_of, role};
+use dine_world::{Whereabouts, World};
 use std::alloc::AllocError;
 
 /// Adds a line for each edge to the text: what each of its ends is, and to which end a fork or a token is on its way.

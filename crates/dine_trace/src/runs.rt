@@ -2,17 +2,17 @@
 ghost use Rattle.std.specs.Prelude.{◌≡◌, ◌≢◌, IfOk, Some, false, length, slice_get, true};
 ghost use Rattle.dine_rules.specs.Schedules.{from_here, replay};
 ghost use Rattle.dine_rules.specs.World.{Reaches, WorldState, enabled_events, is_enabled, start};
-ghost use Rattle.dine_core.specs.Worlds.{IsWorldOf};
+ghost use Rattle.dine_world.specs.Worlds.{IsWorldOf};
 ghost use Rattle.dine_trace.specs.Runs.{AreOfRun};
 
 use crate::fault_lines::Fault;
 use dine::{PlanDiner, open_diners};
-use dine_core::{Event, World};
 use dine_link::{ChannelLane, Lane, RingLane};
 use dine_plan::Plan;
 use dine_rules::laws;
 use dine_run::{order_of, run};
 use dine_words::Links;
+use dine_world::{Event, World};
 use std::alloc::{AllocError, Global};
 use std::sync::Wait;
 use std::thread::Threads;

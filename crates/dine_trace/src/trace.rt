@@ -2,11 +2,11 @@
 
 use crate::ends::push_edges;
 use crate::fault_lines::Fault;
-use dine_core::{Event, World};
 use dine_log_text::replay_text;
 use dine_plan::Plan;
 use dine_states::{Enabled, push_event};
 use dine_words::write_out;
+use dine_world::{Event, World};
 use std::alloc::{AllocError, Global};
 use std::io::Write;
 

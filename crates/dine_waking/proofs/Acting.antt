@@ -8,8 +8,8 @@ use Rattle.dine_graph.specs.Plan.{SeenPlan, IsPlan, site_count, edges_of}
 use Rattle.dine_rules.specs.declared.events.Event.{Event}
 use Rattle.dine_rules.specs.declared.events.EventKind.{EventKind}
 use Rattle.dine_rules.specs.declared.events.EventKind.TheVariants as event
-use Rattle.dine_rules.specs.declared.letters.Kind4.{Kind4}
-use Rattle.dine_rules.specs.declared.letters.Kind4.TheVariants as kind
+use Rattle.dine_rules.specs.declared.letters.LetterKind.{LetterKind}
+use Rattle.dine_rules.specs.declared.letters.LetterKind.TheVariants as kind
 use Rattle.dine_rules.specs.declared.letters.Letter.{Letter}
 use Rattle.dine_rules.specs.declared.letters.Letter.TheVariants as letter
 use Rattle.dine_rules.specs.Letters.{kind_of}
@@ -20,8 +20,8 @@ use Rattle.dine_rules.specs.World.{next_letter, place_of, put_to, start, state_o
 use Rattle.dine_rules.proofs.shared.links.WorldStreams.{IsStepOf, WorldKeeps, event_is_step, events_then, neighbour_differs, prefix_short, reached_kept}
 use Rattle.dine_rules.proofs.shared.one_place.Placed.{placed}
 use Rattle.dine_rules.proofs.shared.one_site.Shapes.{may_within}
-use Rattle.dine_site_core.specs.NextEvent.{may_by_itself, own_kinds}
-use Rattle.dine_site_core.specs.Standing.{all_places}
+use Rattle.dine_site.specs.NextEvent.{may_by_itself, own_kinds}
+use Rattle.dine_site.specs.Standing.{all_places}
 use Rattle.dine_waking.specs.Sleeping.{Coming, letters_coming_at}
 use Rattle.dine_waking.specs.Runs.{Acts, Doing, GoesOn, HasToRing, Run, Sleeps, HasToTake, Thread, HasToWake, IsToBeWoken, doing_after, places_heard, rings_left, thread_of}
 use Rattle.dine_waking.proofs.Queues.{put_elsewhere, put_here, put_keeps_taken, queue_away, queue_from, queue_here, queue_stays, state_elsewhere}
@@ -126,7 +126,7 @@ module _ (plan : SeenPlan) (is_plan : IsPlan plan) (old new : Run) (keeps : RunK
       (quiet_change old new s actor threads GoesOn goes_on has_thread (λ place letters none. subst (λ (d : Doing). IsUnrung d place letters) (sym on) none) (neighbour_at plan t i) (place_of plan (neighbour_at plan t i) (edge_at plan t i)))))
 
   -- the site put a letter at place i
-  module _ (i : ℕ) (kind : Kind4) (l : Letter) (is_kind : kind_of l ≡ kind) (within : i < length (state_of old.world s).traffic) (puts : state ≡ with_put i l (state_of old.world s)) (rings : doing ≡ HasToRing i kind) where
+  module _ (i : ℕ) (kind : LetterKind) (l : Letter) (is_kind : kind_of l ≡ kind) (within : i < length (state_of old.world s).traffic) (puts : state ≡ with_put i l (state_of old.world s)) (rings : doing ≡ HasToRing i kind) where
     place_within : i < length (edges_of plan s)
     place_within = omega (arith, within, (kept.keeps s is_site).every_place)
 

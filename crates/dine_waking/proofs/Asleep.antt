@@ -21,9 +21,9 @@ use Rattle.dine_rules.proofs.shared.links.NextLetters.{in_order, reached_allowed
 use Rattle.dine_rules.proofs.shared.links.WorldStreams.{WorldKeeps, events_then, reached_kept}
 use Rattle.dine_rules.proofs.shared.one_site.BreachLaw.{no_breach}
 use Rattle.dine_rules.proofs.shared.precedence.Acyclic.{precedence_acyclic}
-use Rattle.dine_site_core.specs.CoreWants.{wants_by_lists}
-use Rattle.dine_site_core.specs.NextEvent.{next_event}
-use Rattle.dine_site_core.specs.Standing.{has_finished}
+use Rattle.dine_site.specs.CoreWants.{wants_by_lists}
+use Rattle.dine_site.specs.NextEvent.{next_event}
+use Rattle.dine_site.specs.Standing.{has_finished}
 use Rattle.dine_waking.specs.Sleeping.{AllSleepWell, ArePlacesBelow, ComeUnwanted, Coming, SleepsWell, letters_coming_at}
 use Rattle.dine_waking.proofs.Letters.{first_at, first_elsewhere}
 use Rattle.dine_waking.proofs.Quiet.{first_is_next, is_idle, still_finished, still_quiet}

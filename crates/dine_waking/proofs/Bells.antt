@@ -16,9 +16,9 @@ use Rattle.dine_rules.proofs.shared.links.Across.{across}
 use Rattle.dine_rules.proofs.shared.links.NextLetters.{reached_allowed}
 use Rattle.dine_rules.proofs.shared.links.WorldStreams.{WorldKeeps, events_then, reached_kept, start_state}
 use Rattle.dine_rules.proofs.shared.one_site.Site.{no_traffic_yet}
-use Rattle.dine_site_core.specs.CoreWants.{can_put_off_by_lists, wants_by_lists}
-use Rattle.dine_site_core.specs.NextEvent.{next_event}
-use Rattle.dine_site_core.specs.Standing.{has_finished}
+use Rattle.dine_site.specs.CoreWants.{can_put_off_by_lists, wants_by_lists}
+use Rattle.dine_site.specs.NextEvent.{next_event}
+use Rattle.dine_site.specs.Standing.{has_finished}
 use Rattle.dine_waking.specs.Sleeping.{ArePlacesBelow, ComeUnwanted, Coming, letters_coming_at}
 use Rattle.dine_waking.specs.Runs.{Doing, FallsAsleep, GoesOn, HearsRing, HasToRing, Run, Sleeps, HasToTake, TakesLetter, Thread, HasToWake, IsToBeWoken, fresh_thread, places_heard, rings_for, rings_left, start_run, thread_of}
 use Rattle.dine_waking.proofs.Letters.{first_at, first_elsewhere}

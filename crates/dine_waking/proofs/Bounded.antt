@@ -6,7 +6,7 @@ use Rattle.dine_graph.specs.Plan.{SeenPlan, IsPlan, site_count, edges_of}
 use Rattle.dine_rules.specs.declared.events.Event.{Event}
 use Rattle.dine_rules.specs.declared.events.EventKind.{EventKind}
 use Rattle.dine_rules.specs.declared.events.EventKind.TheVariants as event
-use Rattle.dine_rules.specs.declared.letters.Kind4.{Kind4}
+use Rattle.dine_rules.specs.declared.letters.LetterKind.{LetterKind}
 use Rattle.dine_rules.specs.Bound.{bound_of, effects_of}
 use Rattle.dine_rules.specs.Local.{edge_at, neighbour_at}
 use Rattle.dine_rules.specs.Wants.{SeenWants, is_wanted, still_wanted}
@@ -16,7 +16,7 @@ use Rattle.dine_rules.proofs.shared.counting.Effects.{events_counted}
 use Rattle.dine_rules.proofs.shared.links.Across.{across}
 use Rattle.dine_rules.proofs.shared.links.WorldStreams.{events_then, neighbour_differs}
 use Rattle.dine_rules.proofs.shared.one_place.Placed.{placed}
-use Rattle.dine_site_core.specs.CoreWants.{wants_by_lists}
+use Rattle.dine_site.specs.CoreWants.{wants_by_lists}
 use Rattle.dine_waking.specs.Runs.{Acts, ByActing, ByHearing, ByRinging, BySleeping, ByTaking, ByWaking, Doing, FallsAsleep, GoesOn, RunHasEnded, HearsRing, LeadsBySteps, HasToRing, RingsBell, Run, RunStep, Sleeps, HasToTake, TakesLetter, Thread, ThreadStep, HasToWake, WakesThread, IsToBeWoken, after_ringing, doing_after, doing_rung, fresh_thread, is_woken_by, thread_after_ring, start_run, thread_of}
 use Rattle.dine_waking.proofs.Queues.{take_at}
 use Rattle.dine_waking.proofs.Bells.{Fits, KeepsBell, RunKeeps, keeps_asleep, keeps_heard, keeps_taken, start_keeps}
@@ -56,7 +56,7 @@ weight_woken : (b : Bool) (i j : ℕ) (wants : SeenWants) → weight (after_ring
 weight_woken true i j wants = omega arith
 weight_woken false i j wants = omega arith
 
-weight_rung : (anyway : Bool) (i j : ℕ) (kind : Kind4) (doing : Doing) → weight (after_ringing (is_woken_by anyway j kind doing) i) + weight (doing_rung anyway j kind doing) ≤ 3 + weight doing
+weight_rung : (anyway : Bool) (i j : ℕ) (kind : LetterKind) (doing : Doing) → weight (after_ringing (is_woken_by anyway j kind doing) i) + weight (doing_rung anyway j kind doing) ≤ 3 + weight doing
 weight_rung anyway i j kind GoesOn = omega arith
 weight_rung anyway i j kind (HasToRing k l) = omega arith
 weight_rung anyway i j kind (HasToWake k) = omega arith

@@ -5,7 +5,7 @@ use Rattle.std.proofs.lemmas.Bool.{cases_eq, cond-true, eq-eqb}
 use Rattle.std.proofs.lemmas.List.{length-map}
 use Rattle.std.proofs.lemmas.List.Sums.{sum_by-cons, sum_by-le-sum_by}
 use Rattle.dine_graph.specs.Plan.{SeenPlan, IsPlan, site_count, edges_of}
-use Rattle.dine_rules.specs.declared.letters.Kind4.{Kind4}
+use Rattle.dine_rules.specs.declared.letters.LetterKind.{LetterKind}
 use Rattle.dine_rules.specs.declared.letters.Letter.{Letter}
 use Rattle.dine_rules.specs.Local.{edge_at, neighbour_at}
 use Rattle.dine_rules.specs.World.{place_of, state_of}
@@ -106,7 +106,7 @@ module _ (plan : SeenPlan) (is_plan : IsPlan plan) (run : Run) (keeps : RunKeeps
   bell_is_small = omega (arith, bell_within, few_in_all coming_at 0 (length (edges_of plan s)) few_at)
 
   -- a neighbour has yet to ring
-  pub bell_has_room : (i : ℕ) (kind : Kind4) → i < length (edges_of plan s) → (thread_of run (neighbour_at plan s i)).doing ≡ HasToRing (place_of plan (neighbour_at plan s i) (edge_at plan s i)) kind
+  pub bell_has_room : (i : ℕ) (kind : LetterKind) → i < length (edges_of plan s) → (thread_of run (neighbour_at plan s i)).doing ≡ HasToRing (place_of plan (neighbour_at plan s i) (edge_at plan s i)) kind
       → length (thread_of run s).bell < 4 * length (edges_of plan s)
   bell_has_room i kind within rings =
       let place : ℕ = place_of plan (neighbour_at plan s i) (edge_at plan s i) in
@@ -120,7 +120,7 @@ module _ (plan : SeenPlan) (is_plan : IsPlan plan) (run : Run) (keeps : RunKeeps
       omega (arith, bell_within, fewer_in_all coming_at 0 (length (edges_of plan s)) i few_at within fewer)
 
 -- a bell that is rung has room
-pub rung_has_room : (plan : SeenPlan) (is_plan : IsPlan plan) (run : Run) (keeps : RunKeeps plan run) (s i : ℕ) (kind : Kind4) → s < site_count plan → (thread_of run s).doing ≡ HasToRing i kind
+pub rung_has_room : (plan : SeenPlan) (is_plan : IsPlan plan) (run : Run) (keeps : RunKeeps plan run) (s i : ℕ) (kind : LetterKind) → s < site_count plan → (thread_of run s).doing ≡ HasToRing i kind
     → length (thread_of run (neighbour_at plan s i)).bell < 4 * length (edges_of plan (neighbour_at plan s i))
 rung_has_room plan is_plan run keeps s i kind is_site rings =
     let here : KeepsBell plan run s = keeps.sites s is_site in

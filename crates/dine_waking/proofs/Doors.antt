@@ -5,8 +5,8 @@ use Rattle.dine_graph.specs.Plan.{SeenPlan, IsPlan, site_count}
 use Rattle.dine_rules.specs.declared.events.Event.{Event}
 use Rattle.dine_rules.specs.declared.events.EventKind.TheVariants as event
 use Rattle.dine_rules.specs.World.{IsComplete, Reaches, WorldState, state_of}
-use Rattle.dine_site_core.specs.NextEvent.{next_event}
-use Rattle.dine_site_core.specs.Standing.{has_finished}
+use Rattle.dine_site.specs.NextEvent.{next_event}
+use Rattle.dine_site.specs.Standing.{has_finished}
 use Rattle.dine_waking.specs.Doors.{AllRestAtDoors, Busy, Door, DoorStep, IsReachedDoor, LeadsByDoorSteps, RestsAtDoor, Sleeps, Thinker, Thinks, first_door, is_called, owed_after, woken, Submits, Closes, Rings, Begins, Asks, Hears, GoesOn, FallsAsleep}
 use Rattle.dine_waking.specs.Sleeping.{SleepsWell}
 use Rattle.dine_waking.proofs.Asleep.{all_asleep_is_complete}

@@ -2,7 +2,7 @@
 use Rattle.std.proofs.Common.{◌≡◌, ℕ, ◌<◌, true, false, List, [], ◌∷◌, ◌++◌, length, map, refl, sym, ◌∙◌, ap, subst, inl, inr, arith}
 use Rattle.std.proofs.lemmas.Bool.{and_from, false_from_ne_true, lt-ltb, true≢false}
 use Rattle.dine_graph.specs.Plan.{SeenPlan, IsPlan, site_count, edges_of}
-use Rattle.dine_rules.specs.declared.letters.Kind4.{Kind4}
+use Rattle.dine_rules.specs.declared.letters.LetterKind.{LetterKind}
 use Rattle.dine_rules.specs.declared.letters.Letter.{Letter}
 use Rattle.dine_rules.specs.Links.{queue_to}
 use Rattle.dine_rules.specs.Local.{edge_at, neighbour_at, traffic_at}
@@ -12,7 +12,7 @@ use Rattle.dine_rules.specs.World.{place_of, put_to, state_of}
 use Rattle.dine_rules.proofs.shared.links.Across.{IsAcross, across, place_of-edge_at}
 use Rattle.dine_rules.proofs.shared.links.NextLetters.{reached_allowed}
 use Rattle.dine_rules.proofs.shared.links.WorldStreams.{reached_kept}
-use Rattle.dine_site_core.specs.Standing.{has_finished}
+use Rattle.dine_site.specs.Standing.{has_finished}
 use Rattle.dine_waking.specs.Sleeping.{ArePlacesBelow, Coming, letters_coming_at}
 use Rattle.dine_waking.specs.Runs.{Doing, HasToRing, Run, rings_left, thread_of}
 use Rattle.dine_waking.proofs.Letters.{first_at}
@@ -46,7 +46,7 @@ module _ (plan : SeenPlan) (is_plan : IsPlan plan) (run : Run) (keeps : RunKeeps
   finished_is_silent = none_rung keeps_here.rung_for refl
 
   -- no neighbour has to ring
-  pub finished_not_rung : (i : ℕ) (kind : Kind4) → i < length (edges_of plan s) → (thread_of run (neighbour_at plan s i)).doing ≡ HasToRing (place_of plan (neighbour_at plan s i) (edge_at plan s i)) kind → ⊥
+  pub finished_not_rung : (i : ℕ) (kind : LetterKind) → i < length (edges_of plan s) → (thread_of run (neighbour_at plan s i)).doing ≡ HasToRing (place_of plan (neighbour_at plan s i) (edge_at plan s i)) kind → ⊥
   finished_not_rung i kind within rings =
       let place : ℕ = place_of plan (neighbour_at plan s i) (edge_at plan s i) in
       let link : InLink plan run s i keeps_here.rung_for = keeps_here.links i within in
@@ -60,7 +60,7 @@ module _ (plan : SeenPlan) (is_plan : IsPlan plan) (run : Run) (keeps : RunKeeps
       not_empty (x ∷ front) l queue = none_comes i within x (front ++ l ∷ []) queue
 
 -- so a site rings for none that has finished
-pub rung_has_not_finished : (plan : SeenPlan) (is_plan : IsPlan plan) (run : Run) (keeps : RunKeeps plan run) (s i : ℕ) (kind : Kind4) → s < site_count plan → (thread_of run s).doing ≡ HasToRing i kind
+pub rung_has_not_finished : (plan : SeenPlan) (is_plan : IsPlan plan) (run : Run) (keeps : RunKeeps plan run) (s i : ℕ) (kind : LetterKind) → s < site_count plan → (thread_of run s).doing ≡ HasToRing i kind
     → has_finished plan (neighbour_at plan s i) (state_of run.world (neighbour_at plan s i)) ≡ false
 rung_has_not_finished plan is_plan run keeps s i kind is_site rings =
     let here : KeepsBell plan run s = keeps.sites s is_site in

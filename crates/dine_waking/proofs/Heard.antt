@@ -15,9 +15,9 @@ use Rattle.dine_rules.specs.Steps as step
 use Rattle.dine_rules.specs.World.{WorldState, next_letter, no_state, state_of, world_after}
 use Rattle.dine_rules.proofs.shared.counting.Persistence.{set_cases}
 use Rattle.dine_rules.proofs.shared.links.WorldStreams.{WorldKeeps, event_is_step, option_map_parts, reached_kept}
-use Rattle.dine_site_core.specs.CoreWants.{can_put_off_by_lists}
-use Rattle.dine_site_core.specs.NextEvent.{may_by_itself, own_kinds}
-use Rattle.dine_site_core.specs.Standing.{all_places}
+use Rattle.dine_site.specs.CoreWants.{can_put_off_by_lists}
+use Rattle.dine_site.specs.NextEvent.{may_by_itself, own_kinds}
+use Rattle.dine_site.specs.Standing.{all_places}
 use Rattle.dine_waking.specs.Manners.{IsInManner, can_all_be_put_off, finds_no_ring, has_checked, checked_after, meals_so_far}
 use Rattle.dine_waking.specs.Runs.{Acts, ByActing, ByHearing, ByRinging, BySleeping, ByTaking, ByWaking, Doing, FallsAsleep, GoesOn, HasToRing, HasToWake, HearsRing, IsToBeWoken, RingsBell, Run, HasToTake, Sleeps, TakesLetter, Thread, ThreadStep, WakesThread, after_ringing, doing_after, doing_rung, fresh_thread, is_woken_by, places_heard, number_there, rings_for, rings_left, thread_after_ring, thread_of}
 use Rattle.dine_waking.proofs.Queues.{put_keeps_taken, state_here, taken_elsewhere, taken_here}

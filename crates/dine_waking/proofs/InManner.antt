@@ -7,8 +7,8 @@ use Rattle.dine_rules.specs.declared.events.EventKind.TheVariants as event
 use Rattle.dine_rules.specs.Local.{LocalState}
 use Rattle.dine_rules.specs.Steps as step
 use Rattle.dine_rules.specs.World.{state_of}
-use Rattle.dine_site_core.specs.NextEvent.{may_by_itself, next_event, own_kinds}
-use Rattle.dine_site_core.specs.Standing.{all_places}
+use Rattle.dine_site.specs.NextEvent.{may_by_itself, next_event, own_kinds}
+use Rattle.dine_site.specs.Standing.{all_places}
 use Rattle.dine_waking.specs.Manners.{IsInManner, MannerStep, finds_no_ring, has_checked}
 use Rattle.dine_waking.specs.Runs.{Acts, ByActing, ByHearing, ByRinging, BySleeping, ByTaking, ByWaking, Doing, GoesOn, RunHasEnded, HearsRing, Run, HasToTake, ThreadStep, doing_after, takes_letters, thread_of}
 use Rattle.dine_waking.proofs.Queues.{event_happens}

@@ -1,13 +1,13 @@
 -- The code of a bell notes a ring as a run does.
 use Rattle.std.proofs.Common.{◌≡◌, ℕ, nat_le, ◌&&◌, ◌||◌, not, Bool, true, false, if◌then◌else◌, Some, refl, ap, ◌∙◌}
-use Rattle.dine_rules.specs.declared.letters.Kind4.{Kind4}
+use Rattle.dine_rules.specs.declared.letters.LetterKind.{LetterKind}
 use Rattle.dine_rules.specs.Wants.{SeenWants, is_wanted, still_wanted}
 use Rattle.dine_link.specs.declared.sleeper.SleepState.{SleepState}
 use Rattle.dine_link.specs.Waking.{NotesRing, seen_wants, still_wants, wakes}
 use Rattle.dine_waking.specs.Code.{IsNotedAs, wakes_anyway}
 use Rattle.dine_waking.specs.Runs.{Doing, GoesOn, HasToRing, HasToTake, HasToWake, IsToBeWoken, Sleeps, doing_rung, is_woken_by}
 
-module _ (number : ℕ) (kind : Kind4) (old new : SleepState) (woken : Bool) (notes : NotesRing number kind old new woken) where
+module _ (number : ℕ) (kind : LetterKind) (old new : SleepState) (woken : Bool) (notes : NotesRing number kind old new woken) where
   abbrev anyway : Bool
   anyway = wakes_anyway number old
 

@@ -18,9 +18,9 @@ use Rattle.dine_rules.proofs.shared.lists.Counting.{has_close-append}
 use Rattle.dine_rules.proofs.shared.links.Across.{across}
 use Rattle.dine_rules.proofs.shared.links.NextLetters.{reached_allowed}
 use Rattle.dine_rules.proofs.shared.links.WorldStreams.{reached_kept}
-use Rattle.dine_site_core.specs.CoreWants.{wants_by_lists}
-use Rattle.dine_site_core.specs.NextEvent.{may_by_itself, next_event, own_kinds}
-use Rattle.dine_site_core.specs.Standing.{all_places, has_finished}
+use Rattle.dine_site.specs.CoreWants.{wants_by_lists}
+use Rattle.dine_site.specs.NextEvent.{may_by_itself, next_event, own_kinds}
+use Rattle.dine_site.specs.Standing.{all_places, has_finished}
 use Rattle.dine_waking.specs.Sleeping.{AllSleepWell, ArePlacesBelow, Coming, SleepsWell, letters_coming_at}
 use Rattle.dine_waking.specs.Runs.{ByActing, ByHearing, ByRinging, BySleeping, ByTaking, ByWaking, Doing, GoesOn, RunHasEnded, HasToRing, Run, RunStep, Sleeps, HasToTake, Thread, ThreadStep, HasToWake, IsToBeWoken, after_ringing, doing_after, fresh_thread, is_woken_by, places_heard, number_there, rings_for, thread_after_ring, takes_letters, thread_of}
 use Rattle.dine_waking.proofs.Quiet.{first_is_next}

@@ -9,16 +9,16 @@ use Rattle.dine_graph.specs.Plan.{SeenPlan}
 use Rattle.dine_set.specs.Marks.{marks_of}
 use Rattle.dine_rules.specs.declared.letters.Letter.{Letter}
 use Rattle.dine_rules.specs.declared.letters.Letter.TheVariants as letter
-use Rattle.dine_rules.specs.declared.letters.Kind4.{Kind4}
-use Rattle.dine_rules.specs.declared.letters.Kind4.TheVariants as kind
+use Rattle.dine_rules.specs.declared.letters.LetterKind.{LetterKind}
+use Rattle.dine_rules.specs.declared.letters.LetterKind.TheVariants as kind
 use Rattle.dine_rules.specs.Breach.{first_breach, is_allowed}
 use Rattle.dine_rules.specs.Holdings.{fork_at, hand_at}
 use Rattle.dine_rules.specs.Letters.{kind_of}
 use Rattle.dine_rules.specs.Local.{LocalState, is_eating}
 use Rattle.dine_rules.specs.Wants.{SeenWants, is_wanted, still_wanted}
 use Rattle.dine_rules.proofs.shared.one_site.BreachLaw.{no_breach}
-use Rattle.dine_site_core.specs.CoreWants.{can_put_off_by_lists, has_dirty_fork, wants_by_lists}
-use Rattle.dine_site_core.proofs.shared.one_site.Breaches.{fork_in_turn}
+use Rattle.dine_site.specs.CoreWants.{can_put_off_by_lists, has_dirty_fork, wants_by_lists}
+use Rattle.dine_site.proofs.shared.one_site.Breaches.{fork_in_turn}
 use Rattle.dine_waking.specs.Sleeping.{ArePlacesBelow, ComeUnwanted, Coming, letters_coming_at}
 use Rattle.dine_waking.specs.Runs.{rings_for}
 use Rattle.dine_waking.proofs.Letters.{count_letters, first_at, first_elsewhere}
@@ -170,8 +170,8 @@ AreUnwantedRequests wants = AllByRecursion (λ (one : Coming). (kind_of one.lett
 pub requests_come : (wants : SeenWants) (coming : List Coming) → AreUnwantedRequests wants coming → ComeUnwanted wants coming wants
 requests_come wants [] all = refl
 requests_come wants (one ∷ coming) all = (
-  ap (λ (k : Kind4). is_wanted wants one.place k) all.0.0 ∙ all.0.1,
-  subst (λ (k : Kind4). ComeUnwanted (still_wanted wants k) coming wants) (sym all.0.0) (requests_come wants coming all.1),
+  ap (λ (k : LetterKind). is_wanted wants one.place k) all.0.0 ∙ all.0.1,
+  subst (λ (k : LetterKind). ComeUnwanted (still_wanted wants k) coming wants) (sym all.0.0) (requests_come wants coming all.1),
 )
 
 -- the only letter of its place is the first one there

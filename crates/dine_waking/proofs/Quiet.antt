@@ -21,9 +21,9 @@ use Rattle.dine_rules.specs.Steps as step
 use Rattle.dine_rules.specs.Streams.{KeepsStreams}
 use Rattle.dine_rules.specs.World.{WorldState, next_letter, placeless_kinds, put_to, state_of}
 use Rattle.dine_rules.proofs.shared.counting.Enabled.{IsStill}
-use Rattle.dine_site_core.specs.NextEvent.{may_by_itself, next_event}
-use Rattle.dine_site_core.specs.Standing.{all_places, has_finished}
-use Rattle.dine_site_core.proofs.shared.own_events.NextEvents.{find-map}
+use Rattle.dine_site.specs.NextEvent.{may_by_itself, next_event}
+use Rattle.dine_site.specs.Standing.{all_places, has_finished}
+use Rattle.dine_site.proofs.shared.own_events.NextEvents.{find-map}
 
 -- ---- nothing is found
 

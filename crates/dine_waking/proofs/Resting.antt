@@ -26,9 +26,9 @@ use Rattle.dine_rules.proofs.shared.links.NextLetters.{in_order, reached_allowed
 use Rattle.dine_rules.proofs.shared.links.WorldStreams.{WorldKeeps, events_then, reached_kept}
 use Rattle.dine_rules.proofs.shared.one_site.BreachLaw.{no_breach}
 use Rattle.dine_rules.proofs.shared.precedence.Acyclic.{precedence_acyclic}
-use Rattle.dine_site_core.specs.CoreWants.{wants_by_lists}
-use Rattle.dine_site_core.specs.NextEvent.{may_by_itself, next_event, own_kinds}
-use Rattle.dine_site_core.specs.Standing.{all_places, has_finished}
+use Rattle.dine_site.specs.CoreWants.{wants_by_lists}
+use Rattle.dine_site.specs.NextEvent.{may_by_itself, next_event, own_kinds}
+use Rattle.dine_site.specs.Standing.{all_places, has_finished}
 use Rattle.dine_waking.specs.Resting.{AllRestWell, RestsWell}
 use Rattle.dine_waking.specs.Sleeping.{ArePlacesBelow, ComeUnwanted, Coming, letters_coming_at}
 use Rattle.dine_waking.proofs.Asleep.{all_or_one}

@@ -3,7 +3,7 @@ use Rattle.std.proofs.Common.{◌≡◌, ◌≢◌, ℕ, ◌<◌, ◌||◌, Bool
 use Rattle.std.proofs.lemmas.Bool.{cases_eq}
 use Rattle.std.proofs.lemmas.List.{get_or-set_same, get_or-set_other, length-set}
 use Rattle.dine_graph.specs.Plan.{SeenPlan, IsPlan, site_count, edges_of}
-use Rattle.dine_rules.specs.declared.letters.Kind4.{Kind4}
+use Rattle.dine_rules.specs.declared.letters.LetterKind.{LetterKind}
 use Rattle.dine_rules.specs.declared.letters.Letter.{Letter}
 use Rattle.dine_rules.specs.Letters.{kind_of}
 use Rattle.dine_rules.specs.Links.{queue_to}
@@ -13,7 +13,7 @@ use Rattle.dine_rules.specs.World.{WorldState, place_of, state_of}
 use Rattle.dine_rules.proofs.shared.links.Across.{IsAcross, across, place_of-edge_at}
 use Rattle.dine_rules.proofs.shared.links.WorldStreams.{neighbour_differs}
 use Rattle.dine_rules.proofs.shared.one_place.Placed.{placed}
-use Rattle.dine_site_core.specs.CoreWants.{wants_by_lists}
+use Rattle.dine_site.specs.CoreWants.{wants_by_lists}
 use Rattle.dine_waking.specs.Sleeping.{Coming, letters_coming_at}
 use Rattle.dine_waking.specs.Runs.{Doing, GoesOn, HasToRing, RingsBell, Run, Sleeps, HasToTake, Thread, HasToWake, IsToBeWoken, after_ringing, doing_rung, fresh_thread, is_woken_by, places_heard, rings_left, thread_after_ring, thread_of}
 use Rattle.dine_waking.proofs.Letters.{come_more, letter_elsewhere, letter_here, numbers_more, places_more}
@@ -26,7 +26,7 @@ heard_woken : (b : Bool) (i : ℕ) (wants : SeenWants) → places_heard (if b th
 heard_woken true i wants = refl
 heard_woken false i wants = refl
 
-pub heard_rung : (anyway : Bool) (i : ℕ) (kind : Kind4) (doing : Doing) → places_heard (doing_rung anyway i kind doing) ≡ places_heard doing
+pub heard_rung : (anyway : Bool) (i : ℕ) (kind : LetterKind) (doing : Doing) → places_heard (doing_rung anyway i kind doing) ≡ places_heard doing
 heard_rung anyway i kind GoesOn = refl
 heard_rung anyway i kind (HasToRing j k) = refl
 heard_rung anyway i kind (HasToWake j) = refl
@@ -38,7 +38,7 @@ unrung_woken : (b : Bool) (i : ℕ) (wants : SeenWants) (place : ℕ) (letters :
 unrung_woken true i wants place letters none = none
 unrung_woken false i wants place letters none = none
 
-unrung_rung : (anyway : Bool) (i : ℕ) (kind : Kind4) (doing : Doing) (place : ℕ) (letters : List Letter) → IsUnrung doing place letters → IsUnrung (doing_rung anyway i kind doing) place letters
+unrung_rung : (anyway : Bool) (i : ℕ) (kind : LetterKind) (doing : Doing) (place : ℕ) (letters : List Letter) → IsUnrung doing place letters → IsUnrung (doing_rung anyway i kind doing) place letters
 unrung_rung anyway i kind GoesOn place letters unrung = unrung
 unrung_rung anyway i kind (HasToRing j k) place letters unrung = unrung
 unrung_rung anyway i kind (HasToWake j) place letters unrung = unrung
@@ -226,7 +226,7 @@ module _ (plan : SeenPlan) (is_plan : IsPlan plan) (old new : Run) (keeps : RunK
 
   fits_there : Fits plan there (state_of new.world there) (keeps_there.rung_for ++ one ∷ []) sleeper.doing
   fits_there = subst (λ (world : WorldState). Fits plan there (state_of world there) (keeps_there.rung_for ++ one ∷ []) sleeper.doing) (sym r.world)
-      (subst (λ (kind : Kind4). Fits plan there (state_of old.world there) (keeps_there.rung_for ++ one ∷ []) (doing_rung r.anyway number kind (thread_of old there).doing)) one_left.2
+      (subst (λ (kind : LetterKind). Fits plan there (state_of old.world there) (keeps_there.rung_for ++ one ∷ []) (doing_rung r.anyway number kind (thread_of old there).doing)) one_left.2
       (fits_rung plan there (state_of old.world there) keeps_there.rung_for one over.within r.anyway (thread_of old there).doing keeps_there.fits))
 
   sleeper_keeps : KeepsBell plan new there

@@ -1,14 +1,14 @@
 -- Steps of two workers: the higher one asks for the fork, and the lower one gives it and asks for it again.
 use Rattle.std.proofs.Common.{◌≡◌, ◌<◌, ℕ, zero, suc, List, [], ◌∷◌, ◌++◌, false, refl, sym, ◌∙◌, arith}
 use Rattle.dine_rules.specs.declared.events.EventKind.TheVariants as event
-use Rattle.dine_rules.specs.declared.letters.Kind4.TheVariants as kind
+use Rattle.dine_rules.specs.declared.letters.LetterKind.TheVariants as kind
 use Rattle.dine_rules.specs.declared.phase.Phase.TheVariants.{Hungry, Thinking}
 use Rattle.dine_rules.specs.Local.{LocalState}
 use Rattle.dine_rules.specs.World.{state_of}
 use Rattle.dine_graph.specs.Plan.{SeenPlan}
 use Rattle.dine_rules.specs.Wants.{SeenWants}
 use Rattle.dine_set.specs.Marks.{marks_of}
-use Rattle.dine_site_core.specs.CoreWants.{wants_by_lists}
+use Rattle.dine_site.specs.CoreWants.{wants_by_lists}
 use Rattle.dine_waking.specs.Examples.{asked_world, asleep_run, at_work, fork_given_first, request, state_in, two_workers}
 use Rattle.dine_waking.specs.Mistakes.{hung_run}
 use Rattle.dine_waking.specs.Runs.{ByActing, ByHearing, ByRinging, BySleeping, ByTaking, ByWaking, GoesOn, HasToRing, HasToTake, HasToWake, IsStuck, Run, RunStep, Sleeps, Thread, ThreadStep, start_run, thread_of}

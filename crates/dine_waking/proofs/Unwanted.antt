@@ -16,19 +16,19 @@ use Rattle.dine_rules.specs.Steps.{with_taken}
 use Rattle.dine_rules.specs.Streams.{KeepsStreams}
 use Rattle.dine_rules.specs.Wants.{SeenWants, is_wanted, still_wanted}
 use Rattle.dine_rules.proofs.shared.one_place.Placed.{placed}
-use Rattle.dine_site_core.specs.declared.site.places.Place.{Place}
-use Rattle.dine_site_core.specs.declared.site.places.ForkSlot.TheVariants.{Here}
-use Rattle.dine_site_core.specs.Core.{SeenCore, Refines, kept_at}
-use Rattle.dine_site_core.specs.CoreWants.{TakesUnwanted, wants_by_lists, wants_of}
-use Rattle.dine_site_core.specs.NextEvent.{next_event}
-use Rattle.dine_site_core.specs.Places.{after_take}
-use Rattle.dine_site_core.specs.Standing.{all_places}
-use Rattle.dine_site_core.proofs.shared.one_site.Breaches.{breach_is, fork_in_turn, request_in_turn}
-use Rattle.dine_site_core.proofs.shared.one_site.PlacesAfter.{kept-take_fork, kept-take_request}
-use Rattle.dine_site_core.proofs.shared.one_site.Stands.{place_is, stands_at}
-use Rattle.dine_site_core.proofs.shared.own_events.NextEvents.{next_by_lists}
-use Rattle.dine_site_core.proofs.shared.own_events.Unwanted.{unwanted_next, unwanted_wants}
-use Rattle.dine_site_core.proofs.shared.own_events.WantsByLists.{away_by_lists, dirty_by_lists}
+use Rattle.dine_site.specs.declared.site.places.Place.{Place}
+use Rattle.dine_site.specs.declared.site.places.ForkSlot.TheVariants.{Here}
+use Rattle.dine_site.specs.Core.{SeenCore, Refines, kept_at}
+use Rattle.dine_site.specs.CoreWants.{TakesUnwanted, wants_by_lists, wants_of}
+use Rattle.dine_site.specs.NextEvent.{next_event}
+use Rattle.dine_site.specs.Places.{after_take}
+use Rattle.dine_site.specs.Standing.{all_places}
+use Rattle.dine_site.proofs.shared.one_site.Breaches.{breach_is, fork_in_turn, request_in_turn}
+use Rattle.dine_site.proofs.shared.one_site.PlacesAfter.{kept-take_fork, kept-take_request}
+use Rattle.dine_site.proofs.shared.one_site.Stands.{place_is, stands_at}
+use Rattle.dine_site.proofs.shared.own_events.NextEvents.{next_by_lists}
+use Rattle.dine_site.proofs.shared.own_events.Unwanted.{unwanted_next, unwanted_wants}
+use Rattle.dine_site.proofs.shared.own_events.WantsByLists.{away_by_lists, dirty_by_lists}
 
 -- ---- a core of the state
 

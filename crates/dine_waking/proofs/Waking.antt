@@ -4,7 +4,7 @@ use Rattle.std.proofs.Common.{◌≡◌, ◌≢◌, ◌⊎◌, ℕ, ◌<◌, ◌
 use Rattle.std.proofs.lemmas.Bool.{cases_Bool, cases_eq, cond-true, cond-false, false≢true}
 use Rattle.std.proofs.lemmas.List.{length-set}
 use Rattle.dine_graph.specs.Plan.{SeenPlan, IsPlan, site_count, edges_of}
-use Rattle.dine_rules.specs.declared.letters.Kind4.{Kind4}
+use Rattle.dine_rules.specs.declared.letters.LetterKind.{LetterKind}
 use Rattle.dine_rules.specs.Links.{queue_to}
 use Rattle.dine_rules.specs.Local.{edge_at, neighbour_at}
 use Rattle.dine_rules.specs.Wants.{SeenWants, is_wanted, still_wanted}
@@ -145,7 +145,7 @@ doings_stay plan old new same waking t j is_t of_t =
 -- ---- a ring
 
 -- a ring that has to wake finds a sleeper
-wakes_sleeper : (anyway : Bool) (i : ℕ) (kind : Kind4) (doing : Doing) → is_woken_by anyway i kind doing ≡ true → (wants : SeenWants) × (doing ≡ Sleeps wants) × (doing_rung anyway i kind doing ≡ IsToBeWoken i)
+wakes_sleeper : (anyway : Bool) (i : ℕ) (kind : LetterKind) (doing : Doing) → is_woken_by anyway i kind doing ≡ true → (wants : SeenWants) × (doing ≡ Sleeps wants) × (doing_rung anyway i kind doing ≡ IsToBeWoken i)
 wakes_sleeper anyway i kind GoesOn h = absurd (false≢true h)
 wakes_sleeper anyway i kind (HasToRing j k) h = absurd (false≢true h)
 wakes_sleeper anyway i kind (HasToWake j) h = absurd (false≢true h)
@@ -154,7 +154,7 @@ wakes_sleeper anyway i kind (IsToBeWoken j) h = absurd (false≢true h)
 wakes_sleeper anyway i kind (Sleeps wants) h = (wants, refl, cond-true (is_wanted wants i kind || anyway) (IsToBeWoken i) (Sleeps (still_wanted wants kind)) h)
 
 -- another ring leaves the thread at what it was, or asleep
-sleeps_on : (anyway : Bool) (i : ℕ) (kind : Kind4) (doing : Doing) → is_woken_by anyway i kind doing ≡ false → (doing_rung anyway i kind doing ≡ doing) ⊎ (IsPlain doing × IsPlain (doing_rung anyway i kind doing))
+sleeps_on : (anyway : Bool) (i : ℕ) (kind : LetterKind) (doing : Doing) → is_woken_by anyway i kind doing ≡ false → (doing_rung anyway i kind doing ≡ doing) ⊎ (IsPlain doing × IsPlain (doing_rung anyway i kind doing))
 sleeps_on anyway i kind GoesOn h = inl refl
 sleeps_on anyway i kind (HasToRing j k) h = inl refl
 sleeps_on anyway i kind (HasToWake j) h = inl refl
@@ -162,7 +162,7 @@ sleeps_on anyway i kind (HasToTake j) h = inl refl
 sleeps_on anyway i kind (IsToBeWoken j) h = inl refl
 sleeps_on anyway i kind (Sleeps wants) h = inr (tt, subst IsPlain (sym (cond-false (is_wanted wants i kind || anyway) (IsToBeWoken i) (Sleeps (still_wanted wants kind)) h)) tt)
 
-ring_wakes : (i number : ℕ) (kind : Kind4) (wants : SeenWants) → TwoWake i number (HasToRing i kind) (HasToWake i) (Sleeps wants) (IsToBeWoken number)
+ring_wakes : (i number : ℕ) (kind : LetterKind) (wants : SeenWants) → TwoWake i number (HasToRing i kind) (HasToWake i) (Sleeps wants) (IsToBeWoken number)
 ring_wakes i number kind wants = record {
   wakes_there = λ p e. (let same : i ≡ p = cc in sym same, refl);
   there_wakes_none = λ p e. cc;

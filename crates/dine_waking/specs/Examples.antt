@@ -11,7 +11,7 @@ use Rattle.dine_rules.specs.Local.{LocalState}
 use Rattle.dine_rules.specs.Schedules.{whole_run}
 use Rattle.dine_rules.specs.Steps.{fork_by}
 use Rattle.dine_rules.specs.World.{WorldState, state_of}
-use Rattle.dine_site_core.specs.CoreWants.{wants_by_lists}
+use Rattle.dine_site.specs.CoreWants.{wants_by_lists}
 use Rattle.dine_waking.specs.Sleeping.{Coming}
 use Rattle.dine_waking.specs.Runs.{Doing, GoesOn, Run, Sleeps, Thread}
 

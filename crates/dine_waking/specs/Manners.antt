@@ -8,8 +8,8 @@ use Rattle.dine_rules.specs.Letters.{forks_in, requests_in}
 use Rattle.dine_rules.specs.Links.{queue_to}
 use Rattle.dine_rules.specs.Local.{LocalState, neighbour_at, traffic_at}
 use Rattle.dine_rules.specs.World.{state_of}
-use Rattle.dine_site_core.specs.CoreWants.{can_put_off_by_lists}
-use Rattle.dine_site_core.specs.NextEvent.{next_event}
+use Rattle.dine_site.specs.CoreWants.{can_put_off_by_lists}
+use Rattle.dine_site.specs.NextEvent.{next_event}
 use Rattle.dine_waking.specs.Runs.{ByActing, ByHearing, Doing, GoesOn, Run, RunStep, ThreadStep, has_yet_to_ring, number_there, thread_of}
 
 -- the letters of these rings can be put off until the next meal of the site, in this state

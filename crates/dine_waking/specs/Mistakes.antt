@@ -3,14 +3,14 @@
 use Rattle.std.specs.Prelude.{◌≡◌, ℕ, zero, suc, ◌+◌, Bool, true, false, List, [], ◌∷◌, ◌++◌, slice_set, Some, None}
 use Rattle.dine_graph.specs.Plan.{SeenPlan}
 use Rattle.dine_rules.specs.declared.events.EventKind.{EventKind}
-use Rattle.dine_rules.specs.declared.letters.Kind4.{Kind4}
+use Rattle.dine_rules.specs.declared.letters.LetterKind.{LetterKind}
 use Rattle.dine_rules.specs.declared.phase.Phase.TheVariants.{Hungry}
 use Rattle.dine_rules.specs.Local.{neighbour_at}
 use Rattle.dine_rules.specs.Wants.{SeenWants}
 use Rattle.dine_rules.specs.World.{IsComplete, WorldState, state_of, world_after}
-use Rattle.dine_site_core.specs.CoreWants.{wants_by_lists}
-use Rattle.dine_site_core.specs.NextEvent.{next_event}
-use Rattle.dine_site_core.specs.Standing.{has_finished}
+use Rattle.dine_site.specs.CoreWants.{wants_by_lists}
+use Rattle.dine_site.specs.NextEvent.{next_event}
+use Rattle.dine_site.specs.Standing.{has_finished}
 use Rattle.dine_waking.specs.Examples.{at_work, fork_given_first, request, state_in, two_workers}
 use Rattle.dine_waking.specs.Manners.{MannerStep}
 use Rattle.dine_waking.specs.Runs.{GoesOn, HasToRing, IsStuck, LeadsBySteps, Run, Sleeps, number_there, start_run, thread_of}
@@ -41,7 +41,7 @@ pub record SleepsOverRings (plan : SeenPlan) (s : ℕ) (old new : Run) : Type 0 
 -- the neighbour, and wakes nobody.
 pub record RingsInVain (plan : SeenPlan) (s : ℕ) (old new : Run) : Type 0 where
   pub i : ℕ
-  pub kind : Kind4
+  pub kind : LetterKind
   pub rings : (thread_of old s).doing ≡ HasToRing i kind
   pub world : new.world ≡ old.world
   pub threads : new.threads ≡ slice_set (slice_set old.threads s (at_work GoesOn (thread_of old s).bell))

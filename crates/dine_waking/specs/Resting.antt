@@ -5,9 +5,9 @@ use Rattle.dine_rules.specs.declared.events.EventKind.TheVariants as event
 use Rattle.dine_rules.specs.Links.{queue_to}
 use Rattle.dine_rules.specs.Wants.{SeenWants}
 use Rattle.dine_rules.specs.World.{WorldState, state_of}
-use Rattle.dine_site_core.specs.CoreWants.{wants_by_lists}
-use Rattle.dine_site_core.specs.NextEvent.{next_event}
-use Rattle.dine_site_core.specs.Standing.{has_finished}
+use Rattle.dine_site.specs.CoreWants.{wants_by_lists}
+use Rattle.dine_site.specs.NextEvent.{next_event}
+use Rattle.dine_site.specs.Standing.{has_finished}
 use Rattle.dine_waking.specs.Sleeping.{ArePlacesBelow, ComeUnwanted, Coming, letters_coming_at}
 
 -- The site may rest. It can do nothing without a letter, or the first that it can do is to grow hungry: it thinks, and

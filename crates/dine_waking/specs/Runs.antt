@@ -4,14 +4,14 @@ use Rattle.std.specs.Prelude.{◌≡◌, ◌⊎◌, ℕ, zero, suc, ◌<◌, ◌
 use Rattle.dine_graph.specs.Plan.{SeenPlan, site_count}
 use Rattle.dine_rules.specs.declared.events.EventKind.{EventKind}
 use Rattle.dine_rules.specs.declared.events.EventKind.TheVariants as event
-use Rattle.dine_rules.specs.declared.letters.Kind4.{Kind4}
-use Rattle.dine_rules.specs.declared.letters.Kind4.TheVariants as kind
+use Rattle.dine_rules.specs.declared.letters.LetterKind.{LetterKind}
+use Rattle.dine_rules.specs.declared.letters.LetterKind.TheVariants as kind
 use Rattle.dine_rules.specs.Local.{edge_at, neighbour_at}
 use Rattle.dine_rules.specs.Wants.{SeenWants, is_wanted, still_wanted}
 use Rattle.dine_rules.specs.World.{IsComplete, WorldState, place_of, start, state_of, world_after}
-use Rattle.dine_site_core.specs.CoreWants.{can_put_off_by_lists, wants_by_lists}
-use Rattle.dine_site_core.specs.NextEvent.{next_event}
-use Rattle.dine_site_core.specs.Standing.{has_finished}
+use Rattle.dine_site.specs.CoreWants.{can_put_off_by_lists, wants_by_lists}
+use Rattle.dine_site.specs.NextEvent.{next_event}
+use Rattle.dine_site.specs.Standing.{has_finished}
 
 -- What a thread is at.
 -- - GoesOn: it goes on.
@@ -23,7 +23,7 @@ use Rattle.dine_site_core.specs.Standing.{has_finished}
 -- - IsToBeWoken: it sleeps, and the neighbour at this place has noted a ring and has yet to wake it.
 pub data Doing : Type 0 where
   GoesOn : Doing
-  HasToRing : ℕ → Kind4 → Doing
+  HasToRing : ℕ → LetterKind → Doing
   HasToWake : ℕ → Doing
   HasToTake : ℕ → Doing
   Sleeps : SeenWants → Doing
@@ -62,17 +62,17 @@ doing_after kind = GoesOn
 
 -- Whether a ring for a letter of this kind at place i has to wake the thread: if it sleeps and waits for the letter.
 -- `anyway` says that it is woken by any letter; a ring that fills a bell does so.
-abbrev pub is_woken_by : Bool → ℕ → Kind4 → Doing → Bool
+abbrev pub is_woken_by : Bool → ℕ → LetterKind → Doing → Bool
 is_woken_by anyway i kind (Sleeps wants) = is_wanted wants i kind || anyway
 is_woken_by anyway i kind doing = false
 
 -- what a thread is at after its bell was rung for such a letter
-abbrev pub doing_rung : Bool → ℕ → Kind4 → Doing → Doing
+abbrev pub doing_rung : Bool → ℕ → LetterKind → Doing → Doing
 doing_rung anyway i kind (Sleeps wants) = if is_wanted wants i kind || anyway then IsToBeWoken i else Sleeps (still_wanted wants kind)
 doing_rung anyway i kind doing = doing
 
 -- a thread after its bell was rung for such a letter
-abbrev pub thread_after_ring : Bool → ℕ → Kind4 → Thread → Thread
+abbrev pub thread_after_ring : Bool → ℕ → LetterKind → Thread → Thread
 thread_after_ring anyway i kind thread = record { doing = doing_rung anyway i kind thread.doing; bell = thread.bell ++ i ∷ [] }
 
 -- whether a site takes letters, by the event that it would do first without a letter: if there is none, or if it is
@@ -101,7 +101,7 @@ after_ringing wakes i = if wakes then HasToWake i else GoesOn
 -- The site rings the bell of its neighbour, with the number of the place there, for the letter that it put at place i.
 pub record RingsBell (plan : SeenPlan) (s : ℕ) (old new : Run) : Type 0 where
   pub i : ℕ
-  pub kind : Kind4
+  pub kind : LetterKind
   pub anyway : Bool
   pub rings : (thread_of old s).doing ≡ HasToRing i kind
   pub world : new.world ≡ old.world

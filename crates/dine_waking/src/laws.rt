@@ -9,10 +9,10 @@ ghost use Rattle.dine_rules.specs.Letters.{has_close};
 ghost use Rattle.dine_rules.specs.Local.{edge_at, neighbour_at, traffic_at};
 ghost use Rattle.dine_rules.specs.World.{IsComplete, Reaches, WorldState, place_of, state_of};
 ghost use Rattle.dine_rules.specs.declared.events.Event.{Event};
-ghost use Rattle.dine_rules.specs.declared.letters.Kind4.{Kind4};
+ghost use Rattle.dine_rules.specs.declared.letters.LetterKind.{LetterKind};
 ghost use Rattle.dine_waking.specs.Examples.{asked_world, asleep_run, ended_world, given_world, star, two_workers};
 ghost use Rattle.dine_waking.specs.Examples.{woken_run};
-ghost use Rattle.dine_site_core.specs.Standing.{has_finished};
+ghost use Rattle.dine_site.specs.Standing.{has_finished};
 ghost use Rattle.dine_waking.specs.Runs.{GoesOnForever, HasToRing, HasToWake, IsStuck, IsToBeWoken, LeadsBySteps};
 ghost use Rattle.dine_waking.specs.Runs.{Run, RunHasEnded, RunStep, has_yet_to_ring, number_there, rings_left};
 ghost use Rattle.dine_waking.specs.Runs.{start_run, thread_of};
@@ -104,7 +104,7 @@ pub fn runs_can_end()
 pub fn no_bell_is_full()
     ensures few { (plan : SeenPlan) (n : ℕ) (run : Run) (s : ℕ) → IsPlan plan → LeadsBySteps plan n (start_run plan) run
         → s < site_count plan → length (thread_of run s).bell ≤ 4 * length (edges_of plan s) }
-    ensures room { (plan : SeenPlan) (n : ℕ) (run : Run) (s i : ℕ) (kind : Kind4) → IsPlan plan
+    ensures room { (plan : SeenPlan) (n : ℕ) (run : Run) (s i : ℕ) (kind : LetterKind) → IsPlan plan
         → LeadsBySteps plan n (start_run plan) run → s < site_count plan → (thread_of run s).doing ≡ HasToRing i kind
         → length (thread_of run (neighbour_at plan s i)).bell < 4 * length (edges_of plan (neighbour_at plan s i)) }
 {}
@@ -142,7 +142,7 @@ pub fn finished_sites_are_left_alone()
     ensures silent { (plan : SeenPlan) (n : ℕ) (run : Run) (s : ℕ) → IsPlan plan
         → LeadsBySteps plan n (start_run plan) run → s < site_count plan
         → has_finished plan s (state_of run.world s) ≡ true → rings_left (thread_of run s) ≡ [] }
-    ensures not_rung { (plan : SeenPlan) (n : ℕ) (run : Run) (s i : ℕ) (kind : Kind4) → IsPlan plan
+    ensures not_rung { (plan : SeenPlan) (n : ℕ) (run : Run) (s i : ℕ) (kind : LetterKind) → IsPlan plan
         → LeadsBySteps plan n (start_run plan) run → s < site_count plan → (thread_of run s).doing ≡ HasToRing i kind
         → has_finished plan (neighbour_at plan s i) (state_of run.world (neighbour_at plan s i)) ≡ false }
 {}

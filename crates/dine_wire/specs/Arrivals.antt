@@ -10,8 +10,8 @@ use Rattle.dine_rules.specs.Holdings.{meals_from}
 use Rattle.dine_rules.specs.Values.{after_meals}
 use Rattle.dine_wire.specs.Notes.{fork_note}
 use Rattle.dine_wire.specs.declared.note.ForkNote.{ForkNote}
-use Rattle.dine_wire.specs.declared.note.Told.{Told}
-use Rattle.dine_wire.specs.declared.note.Told.TheVariants.{Fork, Request, Done, Close}
+use Rattle.dine_wire.specs.declared.note.Report.{Report}
+use Rattle.dine_wire.specs.declared.note.Report.TheVariants.{Fork, Request, Done, Close}
 use Rattle.dine_wire.specs.declared.wire_fault.WireFault.{WireFault}
 use Rattle.dine_wire.specs.declared.wire_fault.WireFault.TheVariants as fault
 
@@ -60,7 +60,7 @@ DoesNotArrive plan kept note fault.Unlawful = (n : ℕ) → CarriesOn plan kept 
 DoesNotArrive plan kept note fault.Memory = (n : ℕ) × CarriesOn plan kept note n
 
 -- the letter of an edge that a site gets of what is reported, if it kept this fork when it gave it away
-abbrev pub arrived : SeenPlan → SeenFork → ℕ → Told → Letter
+abbrev pub arrived : SeenPlan → SeenFork → ℕ → Report → Letter
 arrived plan kept edge (Fork note) = letter.Fork (carried_on plan kept (note.ate - meals_here kept))
 arrived plan kept edge Request = letter.Request edge
 arrived plan kept edge Done = letter.Done

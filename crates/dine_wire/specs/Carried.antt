@@ -12,12 +12,12 @@ use Rattle.dine_rules.specs.Steps.{opened_fork}
 use Rattle.dine_rules.specs.Streams.{KeepsStreams}
 use Rattle.dine_rules.specs.World.{WorldState, state_of}
 use Rattle.dine_wire.specs.Arrivals.{MayCarryOn, carried_on}
-use Rattle.dine_wire.specs.Notes.{told_of}
+use Rattle.dine_wire.specs.Notes.{report_of}
 use Rattle.dine_wire.specs.Runs.{bytes_in_run, of_run}
 
 -- the bytes of the letter of this edge, in a run with this number
 abbrev pub letter_bytes : ℕ → ℕ → Letter → List ℕ
-letter_bytes run edge l = bytes_in_run run (record { edge = edge; told = told_of l })
+letter_bytes run edge l = bytes_in_run run (record { edge = edge; report = report_of l })
 
 -- the bytes of each letter, in order
 abbrev pub bytes_of_each : ℕ → ℕ → List Letter → List (List ℕ)

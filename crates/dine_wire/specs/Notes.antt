@@ -6,8 +6,8 @@ use Rattle.dine_token.specs.Log.{meals_of, moves_of}
 use Rattle.dine_rules.specs.declared.letters.Letter.{Letter}
 use Rattle.dine_rules.specs.declared.letters.Letter.TheVariants as letter
 use Rattle.dine_wire.specs.declared.note.Note.{Note}
-use Rattle.dine_wire.specs.declared.note.Told.{Told}
-use Rattle.dine_wire.specs.declared.note.Told.TheVariants.{Fork, Request, Done, Close}
+use Rattle.dine_wire.specs.declared.note.Report.{Report}
+use Rattle.dine_wire.specs.declared.note.Report.TheVariants.{Fork, Request, Done, Close}
 use Rattle.dine_wire.specs.declared.note.ForkNote.{ForkNote}
 
 -- what its sender did with a fork that was sent: the number of Moves in its log, the number of the sender's meals in
@@ -16,11 +16,11 @@ abbrev pub fork_note : SeenFork → ForkNote
 fork_note fork = record { moves = moves_of fork.log; ate = meals_of (other_end fork (location fork)) fork.log; value = fork.value }
 
 -- what the bytes of a letter report of it, beside its edge
-abbrev pub told_of : Letter → Told
-told_of (letter.Fork fork) = Fork (fork_note fork)
-told_of (letter.Request edge) = Request
-told_of letter.Done = Done
-told_of letter.Close = Close
+abbrev pub report_of : Letter → Report
+report_of (letter.Fork fork) = Fork (fork_note fork)
+report_of (letter.Request edge) = Request
+report_of letter.Done = Done
+report_of letter.Close = Close
 
 -- the bytes of a Fork's note, if these are the bytes of its edge: the kind, the edge, the number of Moves in four
 -- bytes, the sender's meals in four, and the value in eight
@@ -30,7 +30,7 @@ fork_bytes edge fork = 1 ∷ edge ++ to_le_bytes w32 fork.moves ++ to_le_bytes w
 -- The bytes of what is reported of a letter, if these are the bytes of its edge. The first is the kind: 1 for a Fork, 2
 -- for a Request, 3 for Done, 4 for Close. The edge follows, and of a Fork its numbers. Of each number the least byte is
 -- first.
-abbrev pub bytes_with : List ℕ → Told → List ℕ
+abbrev pub bytes_with : List ℕ → Report → List ℕ
 bytes_with edge (Fork fork) = fork_bytes edge fork
 bytes_with edge Request = 2 ∷ edge
 bytes_with edge Done = 3 ∷ edge
@@ -38,15 +38,15 @@ bytes_with edge Close = 4 ∷ edge
 
 -- the bytes of a note: the edge has four
 abbrev pub bytes_of : Note → List ℕ
-bytes_of note = bytes_with (to_le_bytes w32 note.edge) note.told
+bytes_of note = bytes_with (to_le_bytes w32 note.edge) note.report
 
 -- the numbers of what a letter reports fit into their bytes
-abbrev pub IsToldInBytes : Told → Type 0
-IsToldInBytes (Fork fork) = (fork.moves < 2 ^ 32) × (fork.ate < 2 ^ 32) × (fork.value < 2 ^ 64)
-IsToldInBytes Request = Unit {0}
-IsToldInBytes Done = Unit {0}
-IsToldInBytes Close = Unit {0}
+abbrev pub IsReportInBytes : Report → Type 0
+IsReportInBytes (Fork fork) = (fork.moves < 2 ^ 32) × (fork.ate < 2 ^ 32) × (fork.value < 2 ^ 64)
+IsReportInBytes Request = Unit {0}
+IsReportInBytes Done = Unit {0}
+IsReportInBytes Close = Unit {0}
 
 -- the numbers of the note fit into their bytes
 abbrev pub IsInBytes : Note → Type 0
-IsInBytes note = (note.edge < 2 ^ 32) × IsToldInBytes note.told
+IsInBytes note = (note.edge < 2 ^ 32) × IsReportInBytes note.report

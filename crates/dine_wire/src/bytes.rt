@@ -5,7 +5,7 @@ ghost use Rattle.dine_wire.specs.Faults.{IsNoNote};
 ghost use Rattle.dine_wire.specs.Notes.{bytes_of, fork_bytes};
 ghost use Rattle.dine_wire.specs.declared.note.Note.{Note as SeenNote};
 
-use crate::note::{ForkNote, Note, Told};
+use crate::note::{ForkNote, Note, Report};
 use crate::wire_fault::WireFault;
 
 /// Writes the note to the front of `out`, which has at least 21 bytes. Returns the number of its bytes, 5 or 21.
@@ -14,11 +14,11 @@ pub(crate) fn put_note(note: Note, out: &mut [u8]) -> usize
     ensures len { result ≡ length (bytes_of note) }
     ensures out { out.new ≡ bytes_of note ++ drop (length (bytes_of note)) out.old }
 {
-    match note.told {
-        Told::Fork(fork) => put_fork(note.edge, fork, out),
-        Told::Request => put_short(2, note.edge, out),
-        Told::Done => put_short(3, note.edge, out),
-        Told::Close => put_short(4, note.edge, out),
+    match note.report {
+        Report::Fork(fork) => put_fork(note.edge, fork, out),
+        Report::Request => put_short(2, note.edge, out),
+        Report::Done => put_short(3, note.edge, out),
+        Report::Close => put_short(4, note.edge, out),
     }
 }
 
@@ -70,19 +70,19 @@ pub(crate) fn read_note(bytes: &[u8]) -> Result<Note, WireFault>
             return Err(WireFault::Length);
         }
         let edge = u32_at(bytes, 1);
-        let told = Told::Fork(fork_at(bytes));
-        return Ok(Note { edge, told });
+        let report = Report::Fork(fork_at(bytes));
+        return Ok(Note { edge, report });
     }
     if bytes.len() != 5 {
         return Err(WireFault::Length);
     }
     let edge = u32_at(bytes, 1);
-    let told = match bytes[0] {
-        2 => Told::Request,
-        3 => Told::Done,
-        _ => Told::Close,
+    let report = match bytes[0] {
+        2 => Report::Request,
+        3 => Report::Done,
+        _ => Report::Close,
     };
-    Ok(Note { edge, told })
+    Ok(Note { edge, report })
 }
 
 fn fork_at(bytes: &[u8]) -> ForkNote

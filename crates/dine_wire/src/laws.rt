@@ -18,23 +18,23 @@ ghost use Rattle.dine_rules.specs.World.{IsComplete, LinksAreOrdered, WorldState
 ghost use Rattle.dine_wire.specs.Arrivals.{GoesOnFrom, arrived};
 ghost use Rattle.dine_wire.specs.Carried.{AreAllJoinedByBytes, AreJoinedByBytes, ArrivesWith, GoOnFromKept, IsOfKept};
 ghost use Rattle.dine_wire.specs.Carried.{bytes_of_each, fork_for_next, kept_forks, letter_bytes};
-ghost use Rattle.dine_wire.specs.Notes.{IsInBytes, bytes_of, told_of};
+ghost use Rattle.dine_wire.specs.Notes.{IsInBytes, bytes_of, report_of};
 ghost use Rattle.dine_wire.specs.Runs.{bytes_in_run, is_of_run, of_run};
 ghost use Rattle.dine_wire.specs.declared.note.Note.{Note};
-ghost use Rattle.dine_wire.specs.declared.note.Told.TheVariants as told;
+ghost use Rattle.dine_wire.specs.declared.note.Report.TheVariants as report;
 
 /// The bytes of four letters, as every build writes them: they stay as they are, since two processes may be of builds
 /// of different days. The first is of a run whose number has eight bytes that differ, and the others are of run 0.
 pub fn letters_have_these_bytes()
     ensures fork { bytes_in_run 578437695752307201
-        (record { edge = 258; told = told.Fork (record { moves = 3; ate = 260; value = 65541 }) })
+        (record { edge = 258; report = report.Fork (record { moves = 3; ate = 260; value = 65541 }) })
         ≡ 1 ∷ 2 ∷ 3 ∷ 4 ∷ 5 ∷ 6 ∷ 7 ∷ 8
         ∷ 1 ∷ 2 ∷ 1 ∷ 0 ∷ 0 ∷ 3 ∷ 0 ∷ 0 ∷ 0 ∷ 4 ∷ 1 ∷ 0 ∷ 0 ∷ 5 ∷ 0 ∷ 1 ∷ 0 ∷ 0 ∷ 0 ∷ 0 ∷ 0 ∷ [] }
-    ensures request { bytes_in_run 0 (record { edge = 1; told = told.Request })
+    ensures request { bytes_in_run 0 (record { edge = 1; report = report.Request })
         ≡ 0 ∷ 0 ∷ 0 ∷ 0 ∷ 0 ∷ 0 ∷ 0 ∷ 0 ∷ 2 ∷ 1 ∷ 0 ∷ 0 ∷ 0 ∷ [] }
-    ensures done { bytes_in_run 0 (record { edge = 1; told = told.Done })
+    ensures done { bytes_in_run 0 (record { edge = 1; report = report.Done })
         ≡ 0 ∷ 0 ∷ 0 ∷ 0 ∷ 0 ∷ 0 ∷ 0 ∷ 0 ∷ 3 ∷ 1 ∷ 0 ∷ 0 ∷ 0 ∷ [] }
-    ensures close { bytes_in_run 0 (record { edge = 1; told = told.Close })
+    ensures close { bytes_in_run 0 (record { edge = 1; report = report.Close })
         ≡ 0 ∷ 0 ∷ 0 ∷ 0 ∷ 0 ∷ 0 ∷ 0 ∷ 0 ∷ 4 ∷ 1 ∷ 0 ∷ 0 ∷ 0 ∷ [] }
 {}
 
@@ -68,7 +68,7 @@ pub fn letters_are_of_one_run()
 pub fn what_arrives_was_sent()
     ensures { (plan : SeenPlan) (kept : SeenFork) (edge : ℕ) (letter : Letter)
         → IsFork kept → GoesOnFrom plan kept edge letter
-        → arrived plan kept edge (told_of letter) ≡ letter }
+        → arrived plan kept edge (report_of letter) ≡ letter }
 {}
 
 /// A link that carries bytes carries letters. Suppose that two sites of one run, in two processes, keep the rules, and

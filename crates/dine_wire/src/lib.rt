@@ -12,6 +12,6 @@ mod runs;
 mod wire_fault;
 
 pub use arrival::{NotArrived, arrive, first_fork};
-pub use note::{ForkNote, Note, Told, note_of};
+pub use note::{ForkNote, Note, Report, note_of};
 pub use runs::{LETTER_MAX, put_letter, read_letter};
 pub use wire_fault::WireFault;

@@ -1,7 +1,7 @@
 //! What the bytes of a letter report.
 ghost use Rattle.std.specs.Prelude.{◌≡◌};
 ghost use Rattle.dine_token.specs.Fork.{SeenFork, other_end};
-ghost use Rattle.dine_wire.specs.Notes.{fork_note, told_of};
+ghost use Rattle.dine_wire.specs.Notes.{fork_note, report_of};
 
 use dine_rules::Letter;
 use dine_token::Fork;
@@ -12,12 +12,12 @@ pub struct Note {
     /// The number of the edge.
     pub edge: u32,
     /// The letter, without what its receiver knows.
-    pub told: Told,
+    pub report: Report,
 }
 
 /// A letter, without what its receiver knows.
 #[derive(Clone, Copy, Debug, PartialEq, Eq)]
-pub enum Told {
+pub enum Report {
     /// The fork of the edge, and what its sender did with it.
     Fork(ForkNote),
     /// The token of the edge.
@@ -42,15 +42,15 @@ pub struct ForkNote {
 /// Returns the note of a letter of this edge.
 pub fn note_of(letter: &Letter, edge: u32) -> Note
     ensures edge { result.edge ≡ edge }
-    ensures told { result.told ≡ told_of letter.now }
+    ensures report { result.report ≡ report_of letter.now }
 {
-    let told = match letter {
-        Letter::Fork(fork) => Told::Fork(fork_note(fork)),
-        Letter::Request(_) => Told::Request,
-        Letter::Done => Told::Done,
-        Letter::Close => Told::Close,
+    let report = match letter {
+        Letter::Fork(fork) => Report::Fork(fork_note(fork)),
+        Letter::Request(_) => Report::Request,
+        Letter::Done => Report::Done,
+        Letter::Close => Report::Close,
     };
-    Note { edge, told }
+    Note { edge, report }
 }
 
 fn fork_note(fork: &Fork) -> ForkNote

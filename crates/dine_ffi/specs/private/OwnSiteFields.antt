@@ -1,7 +1,7 @@
 -- How a site with its meal is kept.
 use Rattle.std.specs.Prelude.{◌≡◌, false, true, MatchOption}
 use Rattle.dine_rules.specs.Local.{is_eating}
-use Rattle.dine_site_core.specs.Places.{IsMealOf}
+use Rattle.dine_site.specs.Places.{IsMealOf}
 use Rattle.dine_ffi.specs.OwnSites.{SeenOwnSite}
 use Rattle.dine_ffi.specs.declared.own_site.OwnSite.TheInside.{Inside}
 

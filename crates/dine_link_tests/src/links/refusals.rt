@@ -4,7 +4,7 @@ use super::steps::{
 };
 use crate::asserts::same;
 use dine_link::{ChannelLane, FaultLane, Lane, RingLane, TxEnd, fault_rx, fault_tx};
-use dine_rules::{Kind4, Letter};
+use dine_rules::{Letter, LetterKind};
 use dine_token::Token;
 use std::alloc::Global;
 use std::process::Abort;
@@ -15,10 +15,10 @@ fn nobody_takes<L: Lane, R: Wait + Abort>(rt: &R, alloc: Global) {
     let (mut tx, rx) = opened::<L>(rt, alloc, 0, 0);
     drop(rx);
     let letter = refuses_put::<L, R>(rt, &mut tx, Letter::Request(Token::open(9)));
-    same(rt, &kind_and_edge(&letter), &(Kind4::Request, Some(9)));
+    same(rt, &kind_and_edge(&letter), &(LetterKind::Request, Some(9)));
     let mut tx = refuses_close::<L, R>(rt, tx);
     let letter = refuses_put::<L, R>(rt, &mut tx, letter);
-    same(rt, &kind_and_edge(&letter), &(Kind4::Request, Some(9)));
+    same(rt, &kind_and_edge(&letter), &(LetterKind::Request, Some(9)));
     let _tx = refuses_close::<L, R>(rt, tx);
 }
 
@@ -27,7 +27,7 @@ fn nobody_puts<L: Lane, R: Wait + Abort>(rt: &R, alloc: Global) {
     let (mut tx, mut rx) = opened::<L>(rt, alloc, 0, 0);
     puts::<L, R>(rt, &mut tx, Letter::Done);
     drop(tx);
-    takes::<L, R>(rt, &mut rx, (Kind4::Done, None));
+    takes::<L, R>(rt, &mut rx, (LetterKind::Done, None));
     refuses_take::<L, R>(rt, &mut rx);
     refuses_take::<L, R>(rt, &mut rx);
     assert!(rt; !L::is_closed(&rx));
@@ -50,10 +50,10 @@ fn fault_lane_refuses_after_its_steps(rt: HostRuntime) {
         &mut tx,
         Letter::Request(Token::open(4)),
     );
-    same(&rt, &letter.kind(), &Kind4::Request);
+    same(&rt, &letter.kind(), &LetterKind::Request);
     let tx = refuses_close::<FaultLane, HostRuntime>(&rt, tx);
     let tx = refuses_close::<FaultLane, HostRuntime>(&rt, tx);
-    takes::<FaultLane, HostRuntime>(&rt, &mut rx, (Kind4::Done, None));
+    takes::<FaultLane, HostRuntime>(&rt, &mut rx, (LetterKind::Done, None));
     refuses_take::<FaultLane, HostRuntime>(&rt, &mut rx);
     let wanted = Report {
         name: (4, 2),

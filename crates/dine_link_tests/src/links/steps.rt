@@ -7,7 +7,7 @@ ghost use Rattle.dine_link.specs.Links.{with_letter, after_refusal};
 
 use crate::asserts::same;
 use dine_link::{Lane, LinkEnd, Lost, TxEnd};
-use dine_rules::{Kind4, Letter};
+use dine_rules::{Letter, LetterKind};
 use std::alloc::Global;
 use std::process::Abort;
 use std::sync::Wait;
@@ -21,9 +21,9 @@ pub fn opened<L: Lane>(rt: &impl Abort, alloc: Global, edge: u32, from: u32) -> 
 }
 
 // The kind of a letter, and the edge of a Request.
-pub fn kind_and_edge(letter: &Letter) -> (Kind4, Option<u32>) {
+pub fn kind_and_edge(letter: &Letter) -> (LetterKind, Option<u32>) {
     match letter {
-        Letter::Request(token) => (Kind4::Request, Some(token.edge())),
+        Letter::Request(token) => (LetterKind::Request, Some(token.edge())),
         _ => (letter.kind(), None),
     }
 }
@@ -73,7 +73,7 @@ pub fn refuses_close<L: Lane, R: Wait + Abort>(rt: &R, tx: L::Tx) -> L::Tx
 }
 
 // Takes a letter, and checks it.
-pub fn takes<L: Lane, R: Wait + Abort>(rt: &R, rx: &mut L::Rx, wanted: (Kind4, Option<u32>))
+pub fn takes<L: Lane, R: Wait + Abort>(rt: &R, rx: &mut L::Rx, wanted: (LetterKind, Option<u32>))
     requires few_letters { length (L.seen_rx rx.old).letters < 2 ^ 61 }
     ensures link { (L.seen_rx rx.new).link ≡ (L.seen_rx rx.old).link }
     ensures count { length (L.seen_rx rx.new).letters ≡ length (L.seen_rx rx.old).letters + 1 }

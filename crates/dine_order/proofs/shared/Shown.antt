@@ -18,7 +18,7 @@ use Rattle.dine_rules.specs.Values.{value_along, value_by}
 use Rattle.dine_rules.proofs.shared.journals.OtherOutcomes.{acts-same, jobs-same}
 use Rattle.dine_rules.proofs.shared.journals.Shown.{all_long, own_is, own_long}
 pub use Rattle.dine_rules.proofs.shared.journals.Shown.{sites_shown}
-use Rattle.dine_core.specs.Worlds.{AreOutcomesFor}
+use Rattle.dine_world.specs.Worlds.{AreOutcomesFor}
 use Rattle.dine_rules.specs.Shown.{plan_shown, shown_by, shown_in}
 use Rattle.dine_order.specs.private.Searching.{outcomes_after, receiver_by, receiver_of}
 

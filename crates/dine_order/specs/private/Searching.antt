@@ -7,7 +7,7 @@ use Rattle.dine_rules.specs.Local.{neighbour_at}
 use Rattle.dine_rules.specs.Steps.{Shape, Takes, Puts, Alone, shape_of}
 use Rattle.dine_rules.specs.World.{WorldState, Reaches, world_after}
 use Rattle.dine_rules.specs.Journals.{IsFrontOf, IsLowestFirst, IsPlacedToEnd, is_ready, journal_of, next_of, part_of}
-use Rattle.dine_core.specs.Worlds.{IsWorldOf, SeenWorld}
+use Rattle.dine_world.specs.Worlds.{IsWorldOf, SeenWorld}
 
 -- the outcomes after the last of this number of meals failed: its job is marked, if there was such a meal and the site
 -- has a job of its number

@@ -1,12 +1,12 @@
 //! The outcomes of meals that journals show.
 ghost use Rattle.std.specs.Prelude.{◌≡◌, IfOk, length, map};
 ghost use Rattle.dine_graph.specs.Plan.{site_count};
-ghost use Rattle.dine_core.specs.Worlds.{lists_of};
+ghost use Rattle.dine_world.specs.Worlds.{lists_of};
 ghost use Rattle.dine_rules.specs.Shown.{shown_by, shown_in};
 ghost use Rattle.dine_order.specs.private.Searching.{outcomes_after};
 
-use dine_core::EventKind;
 use dine_graph::Plan;
+use dine_world::EventKind;
 use std::alloc::{AllocError, Global};
 use std::convert::AsSlice;
 

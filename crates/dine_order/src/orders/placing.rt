@@ -5,14 +5,14 @@ ghost use Rattle.dine_rules.specs.Steps.{IsPlaceWithin, shape_of};
 ghost use Rattle.dine_rules.specs.World.{start};
 ghost use Rattle.dine_rules.specs.declared.events.Event.{Event};
 ghost use Rattle.dine_rules.specs.declared.events.EventKind.{EventKind};
-ghost use Rattle.dine_core.specs.Worlds.{IsWorldOf, SeenWorld};
+ghost use Rattle.dine_world.specs.Worlds.{IsWorldOf, SeenWorld};
 ghost use Rattle.dine_rules.specs.Shown.{plan_shown};
 ghost use Rattle.dine_order.specs.private.Searching.{FindsNext, IsFound, IsSearched, IsSearching, kind_at, receiver_of};
 
-use dine_core::{Event, EventKind, World};
 use dine_graph::Plan;
 use dine_rules::laws;
 use dine_set::BitSet64;
+use dine_world::{Event, EventKind, World};
 use std::alloc::{AllocError, Global};
 use std::convert::AsSlice;
 

@@ -26,7 +26,7 @@ ghost use Rattle.dine_rules.specs.declared.events.Event.{Event};
 ghost use Rattle.dine_rules.specs.declared.events.EventKind.{EventKind};
 ghost use Rattle.dine_rules.specs.declared.events.EventKind.TheVariants.{Ask, Begin, Done, End, Give, Hungry, Quit};
 ghost use Rattle.dine_rules.specs.declared.events.EventKind.TheVariants.{Take};
-ghost use Rattle.dine_rules.specs.declared.letters.Kind4.TheVariants as kind;
+ghost use Rattle.dine_rules.specs.declared.letters.LetterKind.TheVariants as kind;
 ghost use Rattle.dine_rules.specs.declared.letters.Letter.{Letter};
 ghost use Rattle.dine_rules.specs.declared.letters.Letter.TheVariants as letter;
 

@@ -1,3 +1,4 @@
--- Lists of which one element is read or written.
+-- Options, ranges, and lists of forks that are taken and put back.
+pub mod Options
+pub mod Ranges
 pub mod Lists
-pub mod Seen

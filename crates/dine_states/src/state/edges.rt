@@ -6,8 +6,8 @@ use crate::ends::End;
 use crate::precedence::preferred_end;
 use crate::roles::role;
 use crate::why::name_of_why_not;
-use dine_core::{EventKind, Whereabouts, World};
 use dine_graph::Plan;
+use dine_world::{EventKind, Whereabouts, World};
 use serde::Serialize;
 use std::alloc::{AllocError, Global};
 

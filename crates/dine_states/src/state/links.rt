@@ -2,8 +2,8 @@
 
 use crate::ends::End;
 use crate::events::name_of_letter;
-use dine_core::World;
 use dine_graph::Plan;
+use dine_world::World;
 use serde::Serialize;
 use std::alloc::{AllocError, Global};
 

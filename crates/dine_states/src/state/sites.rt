@@ -7,8 +7,8 @@ use crate::readers::has_quit;
 use crate::schedule::Past;
 use crate::waits::waits_of;
 use crate::why::name_of_why_not;
-use dine_core::{EventKind, Phase, World};
 use dine_graph::Plan;
+use dine_world::{EventKind, Phase, World};
 use serde::Serialize;
 use std::alloc::{AllocError, Global};
 

@@ -28,33 +28,33 @@ use Rattle.dine_rules.proofs.shared.lists.Counting.{forks_in-append, prefix_fork
 use Rattle.dine_rules.proofs.shared.lists.Forks.{forks_among-append, forks_among-before, forks_among-prefix}
 use Rattle.dine_rules.proofs.shared.one_place.Placed.{placed}
 use Rattle.dine_rules.proofs.shared.lists.Turns.{open_before, slice_get-behind}
-use Rattle.dine_site_core.specs.Core.{forks_in_hand}
-use Rattle.dine_site_core.specs.Standing.{all_places}
+use Rattle.dine_site.specs.Core.{forks_in_hand}
+use Rattle.dine_site.specs.Standing.{all_places}
 use Rattle.dine_link.specs.Links.{SeenLink, link_of}
 use Rattle.dine_threads.specs.declared.gathered.SiteOut.{SiteOut}
 use Rattle.dine_threads.specs.declared.starts.SiteStart.{SiteStart}
-use Rattle.dine_site.specs.declared.manner.Manner.{Manner}
-use Rattle.dine_site.specs.declared.site_end.SiteEnd.{SiteEnd}
-use Rattle.dine_site.specs.declared.site_end.SiteFault.{SiteFault}
-use Rattle.dine_site.specs.declared.site_end.SiteFault.TheVariants as fault
+use Rattle.dine_site_thread.specs.declared.manner.Manner.{Manner}
+use Rattle.dine_site_thread.specs.declared.site_end.SiteEnd.{SiteEnd}
+use Rattle.dine_site_thread.specs.declared.site_end.SiteFault.{SiteFault}
+use Rattle.dine_site_thread.specs.declared.site_end.SiteFault.TheVariants as fault
 use Rattle.dine_threads.specs.declared.slots.Spot.{Spot}
 use Rattle.dine_threads.specs.Brokens.{AllClosedEarly, AreStatesLeft, fork_at_end, fork_in_hand, held_at_end, high_links, links_of, low_links, report_in}
 use Rattle.dine_threads.specs.private.Collecting.{AreLinksLeft, forks_left, forks_found, in_slots, out_of, rows_left}
 use Rattle.dine_threads.specs.Gathered.{AreLinksOf, IsTakenInOrder, link_from_high, link_from_low, no_link, traffic_of}
 use Rattle.dine_threads.specs.Headline.{AllJoined}
-use Rattle.dine_site.specs.Ports.{PutsFit, SeenPort, seen_port, seen_ports}
-use Rattle.dine_site.specs.Endings.{Ending, HasEnded, OnLinks, breached_at, letter_at, links_at, on_links, refused_at, traffic_on}
+use Rattle.dine_site_thread.specs.Ports.{PutsFit, SeenPort, seen_port, seen_ports}
+use Rattle.dine_site_thread.specs.Endings.{Ending, HasEnded, OnLinks, breached_at, letter_at, links_at, on_links, refused_at, traffic_on}
 use Rattle.dine_threads.specs.private.Spots.{low_spot, high_spot}
 use Rattle.dine_threads.specs.private.Wirings.{AreWired, port_at}
 use Rattle.dine_threads.proofs.shared.all_sites.Collected.{length-in_slots}
-use Rattle.dine_site.proofs.shared.one_site.AtPlaces.{links_there}
+use Rattle.dine_site_thread.proofs.shared.one_site.AtPlaces.{links_there}
 use Rattle.dine_threads.proofs.all_sites.Gatherings.{AreAllLeft, end_for, end_of, forks_each, forks_of_all, left_at, row_of}
 use Rattle.dine_threads.proofs.all_sites.Headlines.{in_all, in_hand}
-use Rattle.dine_site.proofs.shared.lists.Lists.{get-set_other}
+use Rattle.dine_site_thread.proofs.shared.lists.Lists.{get-set_other}
 use Rattle.dine_threads.proofs.all_sites.InSlots.{IsIn, in_slots_puts}
 use Rattle.dine_threads.proofs.lists.Writes.{same_spot}
 use Rattle.dine_link.specs.declared.lane.Lane.{Ghosts}
-use Rattle.dine_site.specs.declared.diner.Diner as diners
+use Rattle.dine_site_thread.specs.declared.diner.Diner as diners
 
 -- ---- forks in slots
 

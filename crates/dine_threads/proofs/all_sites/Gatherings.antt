@@ -22,36 +22,36 @@ use Rattle.dine_rules.specs.Steps.{hand_fork_at}
 use Rattle.dine_rules.proofs.shared.one_place.Placed.{placed}
 use Rattle.dine_rules.proofs.shared.one_site.SiteSteps.{list_all-range}
 use Rattle.dine_rules.proofs.shared.lists.Turns.{ends_in_close}
-use Rattle.dine_site_core.specs.Core.{forks_in_hand}
+use Rattle.dine_site.specs.Core.{forks_in_hand}
 use Rattle.dine_link.specs.Links.{SeenLink, link_of}
 use Rattle.dine_threads.specs.declared.gathered.SiteOut.{SiteOut}
 use Rattle.dine_threads.specs.declared.starts.EndOf.{EndOf}
 use Rattle.dine_threads.specs.declared.starts.SiteStart.{SiteStart}
-use Rattle.dine_site.specs.declared.site_end.SiteEnd.{SiteEnd}
-use Rattle.dine_site.specs.declared.site_end.SiteFault.{SiteFault}
+use Rattle.dine_site_thread.specs.declared.site_end.SiteEnd.{SiteEnd}
+use Rattle.dine_site_thread.specs.declared.site_end.SiteFault.{SiteFault}
 use Rattle.dine_threads.specs.declared.slots.Spot.{Spot}
 use Rattle.dine_threads.specs.declared.threads.Setup.{Setup}
 use Rattle.dine_threads.specs.private.Collecting.{AreForksOf, AreLinksLeft, AreWholeEnds, IsTakenToClose, forks_left, out_of, rows_left}
-use Rattle.dine_site.specs.Diners.{HasEaten, ObeysFailures}
+use Rattle.dine_site_thread.specs.Diners.{HasEaten, ObeysFailures}
 use Rattle.dine_threads.specs.Gathered.{AreFinishedOuts, AreLinksOf, AreOutsOf, IsClosedWhole, IsFinishedOut, IsLowestFault, IsOutOf, link_from_low, link_from_high, no_link}
-use Rattle.dine_site.specs.Ports.{SeenPort, SameLinks, seen_port, seen_ports}
+use Rattle.dine_site_thread.specs.Ports.{SeenPort, SameLinks, seen_port, seen_ports}
 use Rattle.dine_threads.specs.private.SiteStarts.{AreStartsOf, IsReady, IsEndOf, given_to}
-use Rattle.dine_site.specs.Endings.{OnLinks, breached_at, hands_back}
-use Rattle.dine_site.specs.declared.manner.Manner.{Manner}
-use Rattle.dine_site.specs.Threads.{HasWorkedToEnd}
-use Rattle.dine_site.specs.Doings.{empty_checks_of}
-use Rattle.dine_site.specs.SiteEnds.{IsLeft, seen_site_end}
-use Rattle.dine_site.specs.Times.{IsTimed, none_late}
+use Rattle.dine_site_thread.specs.Endings.{OnLinks, breached_at, hands_back}
+use Rattle.dine_site_thread.specs.declared.manner.Manner.{Manner}
+use Rattle.dine_site_thread.specs.Threads.{HasWorkedToEnd}
+use Rattle.dine_site_thread.specs.Doings.{empty_checks_of}
+use Rattle.dine_site_thread.specs.SiteEnds.{IsLeft, seen_site_end}
+use Rattle.dine_site_thread.specs.Times.{IsTimed, none_late}
 use Rattle.dine_threads.specs.private.Setups.{IsSetUp, rows_of_starts}
 use Rattle.dine_threads.specs.private.Spots.{low_spot, high_spot}
 use Rattle.dine_threads.specs.private.Wirings.{AreWired, port_at}
-use Rattle.dine_site.proofs.shared.one_site.AtPlaces.{links_there}
-use Rattle.dine_site.proofs.shared.one_site.Quits.{quit_reported}
-use Rattle.dine_site.proofs.shared.lists.Lists.{all_at}
-use Rattle.dine_site.proofs.shared.lists.Seen.{there_is}
+use Rattle.dine_site_thread.proofs.shared.one_site.AtPlaces.{links_there}
+use Rattle.dine_site_thread.proofs.shared.one_site.Quits.{quit_reported}
+use Rattle.dine_site_thread.proofs.shared.lists.Lists.{all_at}
+use Rattle.dine_site_thread.proofs.shared.lists.Seen.{there_is}
 use Rattle.dine_threads.proofs.shared.lists.Zips.{AllZip-at}
 use Rattle.dine_link.specs.declared.lane.Lane.{Ghosts}
-use Rattle.dine_site.specs.declared.diner.Diner as diners
+use Rattle.dine_site_thread.specs.declared.diner.Diner as diners
 
 -- the element that was made of one
 pub row_of : {X Y : Type 0} (f : X → List Y) (xs : List X) (k : ℕ) (x : X) → slice_get xs k ≡ Some x → get_or (map f xs) k [] ≡ f x

@@ -23,29 +23,29 @@ use Rattle.dine_rules.specs.Streams.{KeepsStreams}
 use Rattle.dine_rules.specs.World.{place_of}
 use Rattle.dine_rules.proofs.shared.links.Across.{edge_at-place_of, place_of-edge_at}
 use Rattle.dine_rules.proofs.shared.one_place.Placed.{placed}
-use Rattle.dine_site_core.specs.Core.{forks_in_hand, tokens_in_hand}
+use Rattle.dine_site.specs.Core.{forks_in_hand, tokens_in_hand}
 use Rattle.dine_link.specs.Links.{SeenLink}
 use Rattle.dine_threads.specs.declared.gathered.SiteOut.{SiteOut}
 use Rattle.dine_threads.specs.declared.starts.SiteStart.{SiteStart}
-use Rattle.dine_site.specs.declared.manner.Manner.{Manner}
-use Rattle.dine_site.specs.declared.site_end.SiteEnd.{SiteEnd}
+use Rattle.dine_site_thread.specs.declared.manner.Manner.{Manner}
+use Rattle.dine_site_thread.specs.declared.site_end.SiteEnd.{SiteEnd}
 use Rattle.dine_threads.specs.declared.slots.Spot.{Spot}
 use Rattle.dine_threads.specs.private.Collecting.{AreLinksLeft, forks_left, forks_found, in_slots, out_of, rows_left}
 use Rattle.dine_threads.specs.Gathered.{IsClosedWhole, low_traffic, high_traffic, traffic_of, no_link}
 use Rattle.dine_threads.specs.Headline.{AllJoined, AreTokensOf, IsHeadline, ate_of, log_in_hand}
-use Rattle.dine_site.specs.Doings.{HasActed}
+use Rattle.dine_site_thread.specs.Doings.{HasActed}
 use Rattle.dine_threads.specs.Journals.{HaveActed, state_left}
-use Rattle.dine_site.specs.Ports.{SeenPort, seen_port, seen_ports}
+use Rattle.dine_site_thread.specs.Ports.{SeenPort, seen_port, seen_ports}
 use Rattle.dine_threads.specs.private.Spots.{low_spot, high_spot}
 use Rattle.dine_threads.specs.private.Wirings.{AreWired, port_at}
 use Rattle.dine_threads.proofs.shared.all_sites.Collected.{length-in_slots}
 use Rattle.dine_threads.proofs.all_sites.Gatherings.{AreAllLeft, end_for, end_of, ends_count, forks_each, forks_of_all, left_at, put_at, row_of, taken_at}
-use Rattle.dine_site.proofs.shared.one_site.Letters.{same_traffic}
+use Rattle.dine_site_thread.proofs.shared.one_site.Letters.{same_traffic}
 use Rattle.dine_threads.proofs.all_sites.InSlots.{IsFilled, IsIn, IsOnly, found_edges, found_get, in_first, in_here, in_second, in_where, in_slots_puts}
-use Rattle.dine_site.proofs.shared.lists.Seen.{there_is}
+use Rattle.dine_site_thread.proofs.shared.lists.Seen.{there_is}
 use Rattle.dine_threads.proofs.lists.Writes.{same_spot}
 use Rattle.dine_link.specs.declared.lane.Lane.{Ghosts}
-use Rattle.dine_site.specs.declared.diner.Diner as diners
+use Rattle.dine_site_thread.specs.declared.diner.Diner as diners
 
 -- two states are the same, part by part
 same_state : (a b : LocalState) → a.phase ≡ b.phase → a.ate ≡ b.ate → a.must_quit ≡ b.must_quit → a.has_quit ≡ b.has_quit → a.traffic ≡ b.traffic → a ≡ b

@@ -6,8 +6,8 @@ use Rattle.std.proofs.lemmas.List.Elements.{All-head, All-tail}
 use Rattle.std.proofs.lemmas.Option.{none-some, same_Some}
 use Rattle.dine_token.specs.Fork.{SeenFork}
 use Rattle.dine_threads.specs.private.Collecting.{forks_found, in_slots}
-use Rattle.dine_site.proofs.shared.lists.Lists.{get-set_other, get-set_same}
-use Rattle.dine_site.proofs.shared.lists.Seen.{there_is}
+use Rattle.dine_site_thread.proofs.shared.lists.Lists.{get-set_other, get-set_same}
+use Rattle.dine_site_thread.proofs.shared.lists.Seen.{there_is}
 
 -- an element of a list, somewhere
 pub record IsIn {X : Type 0} (x : X) (xs : List X) : Type 0 where

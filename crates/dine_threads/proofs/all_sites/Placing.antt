@@ -13,14 +13,14 @@ use Rattle.dine_rules.specs.World.{place_of}
 use Rattle.dine_rules.proofs.shared.links.Across.{edge_at-place_of, place_of-edge_at}
 use Rattle.dine_rules.proofs.shared.lists.Counting.{slice_get-before}
 use Rattle.dine_threads.specs.private.Openings.{HaveNoPort, ArePlaced, AreNewPorts, AreRingersOf, HavePorts, HasNoPort, bells_of, rows_of}
-use Rattle.dine_site.specs.Ports.{SeenPort, IsFreshPort, seen_port, seen_ports}
+use Rattle.dine_site_thread.specs.Ports.{SeenPort, IsFreshPort, seen_port, seen_ports}
 use Rattle.dine_threads.specs.private.Spots.{IsPairAt, IsFullRow, row_at, slot_at, low_spot, high_spot}
 use Rattle.dine_threads.specs.private.Wirings.{AreRingersAt, IsRung, IsWired, port_at}
 use Rattle.dine_threads.specs.declared.opening.SitePorts.{SitePorts}
 use Rattle.dine_threads.specs.declared.slots.EdgePair.{EdgePair}
 use Rattle.dine_threads.specs.declared.slots.Spot.{Spot}
 use Rattle.dine_threads.proofs.all_sites.Edges.{slice_get-push}
-use Rattle.dine_site.proofs.shared.lists.Seen.{there_is}
+use Rattle.dine_site_thread.proofs.shared.lists.Seen.{there_is}
 use Rattle.dine_link.specs.declared.lane.Lane.{Ghosts}
 
 -- ---- lists

@@ -8,11 +8,11 @@ use Rattle.dine_rules.specs.Local.{edge_at, neighbour_at}
 use Rattle.dine_rules.specs.World.{place_of}
 use Rattle.dine_rules.proofs.shared.links.Across.{across}
 use Rattle.dine_link.specs.Links.{SeenLink}
-use Rattle.dine_site.specs.declared.manner.Manner.{Manner}
-use Rattle.dine_site.specs.declared.site_end.SiteEnd.{SiteEnd}
-use Rattle.dine_site.specs.Ports.{seen_ports}
+use Rattle.dine_site_thread.specs.declared.manner.Manner.{Manner}
+use Rattle.dine_site_thread.specs.declared.site_end.SiteEnd.{SiteEnd}
+use Rattle.dine_site_thread.specs.Ports.{seen_ports}
 use Rattle.dine_rules.specs.Timed.{AreTimed, Rise, is_put_at, is_take_at, moments_of}
-use Rattle.dine_site.specs.Times.{AreLater, IsTimed, none_late}
+use Rattle.dine_site_thread.specs.Times.{AreLater, IsTimed, none_late}
 use Rattle.dine_threads.specs.declared.gathered.SiteOut.{SiteOut}
 use Rattle.dine_threads.specs.declared.starts.SiteStart.{SiteStart}
 use Rattle.dine_threads.specs.private.Collecting.{AreLinksLeft, out_of, rows_left}
@@ -21,7 +21,7 @@ use Rattle.dine_threads.specs.Gathered.{IsTakenInOrder}
 use Rattle.dine_threads.proofs.all_sites.Gatherings.{AreAllLeft, end_of, ends_count, left_at, row_of}
 use Rattle.dine_threads.proofs.all_sites.Brokens.{ports_at, stands_at, there_or_none}
 use Rattle.dine_link.specs.declared.lane.Lane.{Ghosts}
-use Rattle.dine_site.specs.declared.diner.Diner as diners
+use Rattle.dine_site_thread.specs.declared.diner.Diner as diners
 
 later_than_more : (later xs ys : List ℕ) → length later ≡ length xs → AreLater later xs → AreLater later (xs ++ ys)
 later_than_more [] xs ys many h n put taken p t = absurd cc

@@ -4,7 +4,7 @@ use Rattle.dine_link.specs.Lanes.{seen_end}
 use Rattle.dine_link.specs.Links.{SeenLink, link_of}
 use Rattle.dine_threads.specs.private.Collecting.{links_left}
 use Rattle.dine_threads.specs.declared.slots.EdgePair.{EdgePair}
-use Rattle.dine_site.specs.declared.port.Port.{Port}
+use Rattle.dine_site_thread.specs.declared.port.Port.{Port}
 use Rattle.dine_link.specs.declared.lane.Lane.{Ghosts}
 
 module _ {Lane Tx Closed Rx : Type 0} (lane : Ghosts Lane Tx Closed Rx) where

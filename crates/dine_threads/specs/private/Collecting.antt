@@ -7,11 +7,11 @@ use Rattle.dine_link.specs.Lanes.{seen_end}
 use Rattle.dine_link.specs.Links.{SeenLink, link_of}
 use Rattle.dine_threads.specs.declared.collecting.Room.{Room}
 use Rattle.dine_threads.specs.declared.gathered.SiteOut.{SiteOut}
-use Rattle.dine_site.specs.declared.port.Port.{Port}
-use Rattle.dine_site.specs.declared.site_end.SiteEnd.{SiteEnd}
+use Rattle.dine_site_thread.specs.declared.port.Port.{Port}
+use Rattle.dine_site_thread.specs.declared.site_end.SiteEnd.{SiteEnd}
 use Rattle.dine_threads.specs.declared.slots.EdgePair.{EdgePair}
 use Rattle.dine_threads.specs.Gathered.{link_from_low, link_from_high}
-use Rattle.dine_site.specs.Ports.{SeenPort, seen_ports}
+use Rattle.dine_site_thread.specs.Ports.{SeenPort, seen_ports}
 use Rattle.dine_threads.specs.private.Spots.{low_spot, high_spot}
 use Rattle.dine_threads.specs.private.Wirings.{port_at}
 use Rattle.dine_link.specs.declared.lane.Lane.{Ghosts}

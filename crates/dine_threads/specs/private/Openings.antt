@@ -5,7 +5,7 @@ use Rattle.dine_graph.specs.Plan.{SeenPlan, site_count, edges_of, is_end, lo_of,
 use Rattle.std.specs.Global.{Vec}
 use Rattle.dine_link.specs.Bells.{SeenBell, SeenRinger, new_ringer}
 use Rattle.dine_threads.specs.declared.opening.SitePorts.{SitePorts}
-use Rattle.dine_site.specs.Ports.{SeenPort, IsFreshPort, seen_ports}
+use Rattle.dine_site_thread.specs.Ports.{SeenPort, IsFreshPort, seen_ports}
 use Rattle.dine_threads.specs.private.Spots.{slot_at}
 use Rattle.dine_threads.specs.private.Wirings.{AreRingersAt, IsRung, IsWired}
 use Rattle.dine_link.specs.declared.lane.Lane.{Ghosts}

@@ -5,12 +5,12 @@ use Rattle.dine_link.specs.Bells.{SeenBell}
 use Rattle.dine_threads.specs.declared.starts.SiteStart.{SiteStart}
 use Rattle.dine_threads.specs.declared.threads.Setup.{Setup}
 use Rattle.dine_threads.specs.private.Collecting.{IsRoomFor}
-use Rattle.dine_site.specs.declared.manner.Manner.{Manner}
-use Rattle.dine_site.specs.Ports.{SeenPort, seen_ports}
+use Rattle.dine_site_thread.specs.declared.manner.Manner.{Manner}
+use Rattle.dine_site_thread.specs.Ports.{SeenPort, seen_ports}
 use Rattle.dine_threads.specs.private.SiteStarts.{AreStartsOf, IsReady}
 use Rattle.dine_threads.specs.private.Wirings.{AreRung, AreWired}
 use Rattle.dine_link.specs.declared.lane.Lane.{Ghosts}
-use Rattle.dine_site.specs.declared.diner.Diner as diners
+use Rattle.dine_site_thread.specs.declared.diner.Diner as diners
 
 module _ {Lane Tx Closed Rx D : Type 0} (lane : Ghosts Lane Tx Closed Rx) where
   -- the ports that move into the threads, one row for each site

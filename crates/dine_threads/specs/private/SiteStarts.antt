@@ -2,20 +2,20 @@
 use Rattle.std.specs.Prelude.{◌≡◌, ℕ, ◌≤◌, false, List, [], All, length, slice_get, Some, None}
 use Rattle.dine_graph.specs.Plan.{SeenPlan}
 use Rattle.std.specs.declared.thread.PromisedHandle.{PromisedHandle}
-use Rattle.dine_site_core.specs.Standing.{IsFreshFor}
+use Rattle.dine_site.specs.Standing.{IsFreshFor}
 use Rattle.dine_threads.specs.declared.starts.EndOf.{EndOf}
 use Rattle.dine_threads.specs.declared.starts.SiteStart.{SiteStart}
-use Rattle.dine_site.specs.declared.site_end.SiteEnd.{SiteEnd}
-use Rattle.dine_site.specs.declared.manner.Manner.{Manner}
-use Rattle.dine_site.specs.Doings.{empty_checks_of}
-use Rattle.dine_site.specs.Diners.{HasEaten, ObeysFailures}
-use Rattle.dine_site.specs.Ports.{IsFreshPort, seen_ports}
-use Rattle.dine_site.specs.Starts.{MayStart}
-use Rattle.dine_site.specs.Threads.{IsThreadRun}
-use Rattle.dine_site.specs.Times.{IsTimed, none_late}
-use Rattle.dine_site.specs.SiteEnds.{IsLeft, seen_site_end}
+use Rattle.dine_site_thread.specs.declared.site_end.SiteEnd.{SiteEnd}
+use Rattle.dine_site_thread.specs.declared.manner.Manner.{Manner}
+use Rattle.dine_site_thread.specs.Doings.{empty_checks_of}
+use Rattle.dine_site_thread.specs.Diners.{HasEaten, ObeysFailures}
+use Rattle.dine_site_thread.specs.Ports.{IsFreshPort, seen_ports}
+use Rattle.dine_site_thread.specs.Starts.{MayStart}
+use Rattle.dine_site_thread.specs.Threads.{IsThreadRun}
+use Rattle.dine_site_thread.specs.Times.{IsTimed, none_late}
+use Rattle.dine_site_thread.specs.SiteEnds.{IsLeft, seen_site_end}
 use Rattle.dine_link.specs.declared.lane.Lane.{Ghosts}
-use Rattle.dine_site.specs.declared.diner.Diner as diners
+use Rattle.dine_site_thread.specs.declared.diner.Diner as diners
 
 -- what moved into the thread
 abbrev pub given_to : {Lane D Tx Closed Rx : Type 0} → PromisedHandle (SiteEnd Lane D Tx Closed Rx) (EndOf Lane D Tx Closed Rx) → SiteStart Lane D Tx Closed Rx

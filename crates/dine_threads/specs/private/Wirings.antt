@@ -5,7 +5,7 @@ use Rattle.dine_rules.specs.World.{place_of}
 use Rattle.dine_link.specs.Bells.{SeenBell, SeenRinger, new_ringer}
 use Rattle.dine_threads.specs.declared.slots.EdgePair.{EdgePair}
 use Rattle.dine_threads.specs.declared.slots.Spot.{Spot}
-use Rattle.dine_site.specs.Ports.{SeenPort}
+use Rattle.dine_site_thread.specs.Ports.{SeenPort}
 use Rattle.dine_threads.specs.private.Spots.{low_spot, high_spot}
 
 -- The ringers of the bells at the two ends of the edge, each with the place of the edge there as its number.

@@ -12,17 +12,17 @@ ghost use Rattle.dine_rules.specs.Local.{LocalState, neighbour_at};
 ghost use Rattle.dine_rules.specs.Steps.{Step, Take};
 ghost use Rattle.dine_rules.specs.Wants.{SeenWants};
 ghost use Rattle.dine_rules.specs.declared.events.EventKind.{EventKind};
-ghost use Rattle.dine_rules.specs.declared.letters.Kind4.{Kind4};
+ghost use Rattle.dine_rules.specs.declared.letters.LetterKind.{LetterKind};
 ghost use Rattle.dine_rules.specs.declared.letters.Letter.{Letter};
-ghost use Rattle.dine_site.specs.Doings.{IsInTurn, event_of, is_on_call, own_event};
-ghost use Rattle.dine_site.specs.Threads.{IsTurn, MaySleep, Memo, Recalls, Takes, acts_alone, ringing_for};
-ghost use Rattle.dine_site.specs.Threads as turns;
-ghost use Rattle.dine_site_core.specs.CoreWants.{can_put_off_by_lists, wants_by_lists};
+ghost use Rattle.dine_site_thread.specs.Doings.{IsInTurn, event_of, is_on_call, own_event};
+ghost use Rattle.dine_site_thread.specs.Threads.{IsTurn, MaySleep, Memo, Recalls, Takes, acts_alone, ringing_for};
+ghost use Rattle.dine_site_thread.specs.Threads as turns;
+ghost use Rattle.dine_site.specs.CoreWants.{can_put_off_by_lists, wants_by_lists};
 ghost use Rattle.dine_rules.specs.World.{WorldState, state_of, world_after};
-ghost use Rattle.dine_site.specs.declared.manner.Manner.{Manner};
-ghost use Rattle.dine_site.specs.declared.manner.Manner.TheVariants.{Eager, OnCall, Patient};
+ghost use Rattle.dine_site_thread.specs.declared.manner.Manner.{Manner};
+ghost use Rattle.dine_site_thread.specs.declared.manner.Manner.TheVariants.{Eager, OnCall, Patient};
 ghost use Rattle.dine_rules.specs.declared.events.EventKind.TheVariants as event;
-ghost use Rattle.dine_site_core.specs.NextEvent.{next_event};
+ghost use Rattle.dine_site.specs.NextEvent.{next_event};
 ghost use Rattle.dine_waking.specs.Code.{IsNotedAs, rings_due, wakes_anyway, wakes_due, with_thread};
 ghost use Rattle.dine_waking.specs.Manners.{IsInManner};
 ghost use Rattle.dine_waking.specs.Runs.{Acts, ByHearing, Doing, FallsAsleep, GoesOn, HasToRing, HasToTake};
@@ -35,7 +35,7 @@ ghost use Rattle.dine_waking.specs.Runs.{start_run, takes_letters, thread_after_
 /// `anyway` of this step is true exactly if the ring fills the bell, or the number of the ringer is 64 or more. And a
 /// bell that is noted as asleep with these wants is that of a thread that sleeps and waits for these letters.
 pub fn bells_note_rings_as_runs_do()
-    ensures rung { (doing : Doing) (number : ℕ) (kind : Kind4) (old new : SleepState) (woken : Bool)
+    ensures rung { (doing : Doing) (number : ℕ) (kind : LetterKind) (old new : SleepState) (woken : Bool)
         → IsNotedAs doing old → NotesRing number kind old new woken
         → (woken ≡ is_woken_by (wakes_anyway number old) number kind doing)
         × IsNotedAs (doing_rung (wakes_anyway number old) number kind doing) new }
@@ -85,7 +85,7 @@ pub fn turns_are_steps_of_runs()
         (record old { world = world })) }
     ensures rings { (step : Step) (woken : Bool) (kind : EventKind) → event_of step ≡ Some kind
         → ringing_for step woken ≡ rings_due woken (doing_after kind) }
-    ensures rung { (plan : SeenPlan) (s : ℕ) (old : Run) (i : ℕ) (kind : Kind4) (anyway woken : Bool)
+    ensures rung { (plan : SeenPlan) (s : ℕ) (old : Run) (i : ℕ) (kind : LetterKind) (anyway woken : Bool)
         → (thread_of old s).doing ≡ HasToRing i kind
         → woken ≡ is_woken_by anyway (number_there plan s i) kind (thread_of old (neighbour_at plan s i)).doing
         → RingsBell plan s old (with_thread (neighbour_at plan s i)

@@ -5,7 +5,7 @@ ghost use Rattle.std.specs.Prelude.{◌≡◌, ◌<◌, ◌≤◌, ◌+◌, ◌*
 ghost use Rattle.dine_token.specs.declared.limits.TheConstants.{MAX_JOBS};
 ghost use Rattle.dine_graph.specs.Plan.{IsPlan, SeenPlan, edges_of, site_count};
 ghost use Rattle.dine_rules.specs.Local.{neighbour_at};
-ghost use Rattle.dine_rules.specs.declared.letters.Kind4.TheVariants as kind;
+ghost use Rattle.dine_rules.specs.declared.letters.LetterKind.TheVariants as kind;
 ghost use Rattle.dine_waking.specs.MannerExamples.{asked_back_run, eats_dirty_run, eats_first_run, rung_run};
 ghost use Rattle.dine_waking.specs.MannerExamples.{fork_taken_run, rung_too_late_run, unrung_run};
 ghost use Rattle.dine_waking.specs.Examples.{two_sites};

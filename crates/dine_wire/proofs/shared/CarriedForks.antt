@@ -21,8 +21,8 @@ use Rattle.dine_wire.specs.Carried.{IsCarriedOn, letter_bytes}
 use Rattle.dine_wire.specs.Notes.{IsInBytes, bytes_of, fork_note}
 use Rattle.dine_wire.specs.declared.note.ForkNote.{ForkNote}
 use Rattle.dine_wire.specs.declared.note.Note.{Note}
-use Rattle.dine_wire.specs.declared.note.Told.{Told}
-use Rattle.dine_wire.specs.declared.note.Told.TheVariants as told
+use Rattle.dine_wire.specs.declared.note.Report.{Report}
+use Rattle.dine_wire.specs.declared.note.Report.TheVariants as report
 use Rattle.dine_wire.proofs.shared.LettersOfRuns.{note_in_run}
 use Rattle.dine_wire.proofs.Arriving.{MayEat-next, MayMove-eaten_on, eaten_on-more, eaten_on-none, end_of_plan, ends_differ, fork_note-carried_on, meals_of-others}
 
@@ -122,7 +122,7 @@ read_back one other first second same = grind (arith, common_steps)
 
 module _ (plan : SeenPlan) (is_plan : IsPlan plan) (run edge : ℕ) (kept : SeenFork) (is : IsFork kept) (of_plan : IsOfPlan plan kept) (small : edge < 2 ^ 32) where
   -- the numbers fit into their bytes
-  in_bytes : (n : ℕ) → MayCarryOn kept n → IsInBytes (record { edge = edge; told = told.Fork (fork_note (carried_on plan kept n)) })
+  in_bytes : (n : ℕ) → MayCarryOn kept n → IsInBytes (record { edge = edge; report = report.Fork (fork_note (carried_on plan kept n)) })
   in_bytes n may =
       let fork = carried_on plan kept n in
       let is_fork = IsFork-carried_on plan kept n is_plan is of_plan may in
@@ -144,10 +144,10 @@ module _ (plan : SeenPlan) (is_plan : IsPlan plan) (run edge : ℕ) (kept : Seen
       let m = second.meals in
       let bytes_too : letter_bytes run edge (letter.Fork (carried_on plan kept n)) ≡ letter_bytes run edge (letter.Fork (carried_on plan kept m)) =
       ap (λ (f : SeenFork). letter_bytes run edge (letter.Fork f)) (sym first.is) ∙ bytes ∙ ap (λ (f : SeenFork). letter_bytes run edge (letter.Fork f)) second.is in
-      let mine : Note = record { edge = edge; told = told.Fork (fork_note (carried_on plan kept n)) } in
-      let theirs : Note = record { edge = edge; told = told.Fork (fork_note (carried_on plan kept m)) } in
+      let mine : Note = record { edge = edge; report = report.Fork (fork_note (carried_on plan kept n)) } in
+      let theirs : Note = record { edge = edge; report = report.Fork (fork_note (carried_on plan kept m)) } in
       let notes : mine ≡ theirs = read_back mine theirs (in_bytes n first.may) (in_bytes m second.may) (note_in_run run mine theirs bytes_too) in
-      let ate : (fork_note (carried_on plan kept n)).ate ≡ (fork_note (carried_on plan kept m)).ate = ap (λ (note : Note). ate_in note.told) notes in
+      let ate : (fork_note (carried_on plan kept n)).ate ≡ (fork_note (carried_on plan kept m)).ate = ap (λ (note : Note). ate_in note.report) notes in
       let end = IsEnd-location kept is in
       let same : n ≡ m = omega (
         arith,
@@ -157,8 +157,8 @@ module _ (plan : SeenPlan) (is_plan : IsPlan plan) (run edge : ℕ) (kept : Seen
       ) in
       first.is ∙ ap (carried_on plan kept) same ∙ sym second.is
     where
-      ate_in : Told → ℕ
-      ate_in (told.Fork note) = note.ate
-      ate_in told.Request = 0
-      ate_in told.Done = 0
-      ate_in told.Close = 0
+      ate_in : Report → ℕ
+      ate_in (report.Fork note) = note.ate
+      ate_in report.Request = 0
+      ate_in report.Done = 0
+      ate_in report.Close = 0

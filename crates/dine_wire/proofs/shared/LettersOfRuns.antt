@@ -10,7 +10,7 @@ use Rattle.dine_graph.specs.Plan.{SeenPlan}
 use Rattle.dine_rules.specs.declared.letters.Letter.{Letter}
 use Rattle.dine_rules.specs.Local.{Traffic}
 use Rattle.dine_wire.specs.Carried.{TakesByBytes, bytes_of_each, letter_bytes}
-use Rattle.dine_wire.specs.Notes.{bytes_of, told_of}
+use Rattle.dine_wire.specs.Notes.{bytes_of, report_of}
 use Rattle.dine_wire.specs.Runs.{bytes_in_run, is_of_run, of_run, run_of}
 use Rattle.dine_wire.specs.declared.note.Note.{Note}
 
@@ -37,11 +37,11 @@ pub is_of_own : (run : ℕ) (note : Note) → run < 2 ^ 64 → is_of_run run (by
 is_of_own run note small = with_number run run (bytes_of note) true (eq-eqb _ run (run_of-letter run (bytes_of note) small))
 
 pub is_own : (run edge : ℕ) (l : Letter) → run < 2 ^ 64 → is_of_run run (letter_bytes run edge l) ≡ true
-is_own run edge l small = is_of_own run (record { edge = edge; told = told_of l }) small
+is_own run edge l small = is_of_own run (record { edge = edge; report = report_of l }) small
 
 pub is_of_other : (run other edge : ℕ) (l : Letter) → other < 2 ^ 64 → run ≢ other → is_of_run run (letter_bytes other edge l) ≡ false
 is_of_other run other edge l small differ =
-    let bytes : List ℕ = bytes_of (record { edge = edge; told = told_of l }) in
+    let bytes : List ℕ = bytes_of (record { edge = edge; report = report_of l }) in
     with_number run other bytes false (ne_eqb _ run (λ same. differ (sym same ∙ run_of-letter other bytes small)))
 
 -- ---- what is of a run, letter by letter

@@ -2,8 +2,8 @@
 use Rattle.std.proofs.Common.{◌≡◌, ◌≢◌, ◌∙◌, refl, Result, Ok, Err, IfErr, IsErrAnd, length, vec_items, vec_len, ap, subst, sym, arith}
 use Rattle.std.specs.Global.{Vec}
 use Rattle.dine_graph.specs.Plan.{SeenPlan, site_count}
-use Rattle.dine_site.specs.declared.manner.Manner.{Manner}
-use Rattle.dine_site.specs.declared.manner.Manner.TheVariants.{Greedy}
+use Rattle.dine_site_thread.specs.declared.manner.Manner.{Manner}
+use Rattle.dine_site_thread.specs.declared.manner.Manner.TheVariants.{Greedy}
 use Rattle.dine_threads.specs.Gathered.{AreOutsOf}
 use Rattle.dine_threads.specs.declared.options.RunOptions.{RunOptions}
 use Rattle.dine_threads.specs.Headline.{FaultIs}

@@ -3,7 +3,7 @@ use Rattle.std.proofs.Common.{◌≡◌, ◌∙◌, length, map, slice_get, refl
 use Rattle.std.specs.Vec.Iter.{into_iter_items}
 use Rattle.std.proofs.lemmas.List.{length-map}
 use Rattle.dine_graph.specs.Plan.{job_count}
-use Rattle.dine_site.specs.CallLogs.{SeenCallLog, no_calls}
+use Rattle.dine_site_thread.specs.CallLogs.{SeenCallLog, no_calls}
 use Rattle.dine_threads.proofs.shared.lists.Zips.{mapped_split}
 use Rattle.dine_threads.proofs.shared.all_sites.Collected.{each_more}
 use Rattle.dine_jobs.specs.JobRuns.{HasRun, failed_numbers, numbers_of}

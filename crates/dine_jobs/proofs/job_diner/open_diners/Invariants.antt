@@ -1,7 +1,7 @@
 use Rattle.std.proofs.Common.{◌≡◌, ◌≤◌, ◌++◌, ℕ, Some, map, slice_get, vec_capacity, vec_items, vec_len}
 use Rattle.std.specs.Vec.Iter.{into_iter_items}
 use Rattle.dine_graph.specs.Plan.{job_count, site_count}
-use Rattle.dine_site.specs.CallLogs.{no_calls}
+use Rattle.dine_site_thread.specs.CallLogs.{no_calls}
 use Rattle.dine_jobs.specs.declared.job_diner.JobDiner.{JobDiner}
 use Rattle.dine_jobs.proofs.job_diner.open_diners.Given as goal
 

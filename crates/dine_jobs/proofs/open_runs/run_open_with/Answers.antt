@@ -1,6 +1,6 @@
 use Rattle.std.proofs.Common.{ap, subst}
 use Rattle.std.proofs.lemmas.Result.{IfOk-weaker}
-use Rattle.dine_site.specs.declared.manner.Manner.{Manner}
+use Rattle.dine_site_thread.specs.declared.manner.Manner.{Manner}
 use Rattle.dine_threads.specs.declared.options.RunOptions.{RunOptions}
 use Rattle.dine_jobs.specs.JobRuns.{IsDoneRun}
 use Rattle.dine_jobs.proofs.open_runs.run_open_with.Goals as goal

@@ -4,9 +4,9 @@ use Rattle.std.proofs.lemmas.Result.{IfErr-weaker}
 use Rattle.std.proofs.lemmas.Simd.{map-map}
 use Rattle.dine_graph.specs.Plan.{SeenPlan, site_count}
 use Rattle.dine_rules.specs.declared.events.EventKind.{EventKind}
-use Rattle.dine_site.specs.CallLogs.{SeenCallLog}
+use Rattle.dine_site_thread.specs.CallLogs.{SeenCallLog}
 use Rattle.dine_link.specs.Links.{SeenLink}
-use Rattle.dine_site.specs.declared.manner.Manner.{Manner}
+use Rattle.dine_site_thread.specs.declared.manner.Manner.{Manner}
 use Rattle.dine_token.specs.Fork.{SeenFork}
 use Rattle.dine_threads.specs.Runs.{IsWholeRun}
 use Rattle.dine_threads.specs.declared.gathered.SiteOut.{SiteOut}

@@ -2,8 +2,8 @@ use Rattle.std.proofs.Common.{◌≡◌, ◌<◌, Option, Some, None, ◌∙◌,
 use Rattle.std.proofs.lemmas.Option.{same_Some}
 use Rattle.dine_token.specs.Fork.{SeenFork}
 use Rattle.dine_graph.specs.Plan.{edge_count}
-use Rattle.dine_core.specs.Outcomes.{with_outcomes}
-use Rattle.dine_core.specs.Worlds.{fork_seen}
+use Rattle.dine_world.specs.Outcomes.{with_outcomes}
+use Rattle.dine_world.specs.Worlds.{fork_seen}
 use Rattle.dine_log_text.proofs.EdgeLines.{fork_there, lines_step}
 use Rattle.dine_log_text.proofs.logs.push_lines.Goals as goal
 use Rattle.dine_log_text.proofs.logs.push_lines.Goals.{in-Some+in_ok-push_edge_line, in_default}

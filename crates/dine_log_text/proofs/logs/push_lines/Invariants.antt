@@ -1,9 +1,9 @@
 use Rattle.std.proofs.Common.{◌≡◌, ◌++◌, ◌-◌, Bool, List, string_bytes}
 use Rattle.std.specs.List.{flat_map, range_with_len}
 use Rattle.dine_graph.specs.Plan.{edge_count}
-use Rattle.dine_core.specs.Outcomes.{with_outcomes}
-use Rattle.dine_core.specs.World.{WorldState}
-use Rattle.dine_core.specs.Worlds.{IsWorldOf}
+use Rattle.dine_world.specs.Outcomes.{with_outcomes}
+use Rattle.dine_world.specs.World.{WorldState}
+use Rattle.dine_world.specs.Worlds.{IsWorldOf}
 use Rattle.dine_log_text.specs.Logs.{edge_lines, line_of_edge}
 use Rattle.dine_log_text.proofs.logs.push_lines.Given as goal
 

@@ -1,5 +1,5 @@
 use Rattle.std.proofs.Common.{◌++◌, ℕ, List, ◌∙◌, ap}
-use Rattle.dine_core.specs.Outcomes.{with_outcomes}
+use Rattle.dine_world.specs.Outcomes.{with_outcomes}
 use Rattle.dine_log_text.specs.Logs.{edge_lines, events_line}
 use Rattle.dine_log_text.proofs.logs.world_text.Goals as goal
 

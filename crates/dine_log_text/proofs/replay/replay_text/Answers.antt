@@ -2,11 +2,11 @@
 -- that of the whole run.
 use Rattle.std.proofs.Common.{◌≡◌, ◌+◌, ◌∙◌, Bool, List, [], ap, ap₂, arith, subst, sym}
 use Rattle.std.proofs.lemmas.Result.{IfOk-weaker}
-use Rattle.dine_core.specs.Schedules.{after_choices, from_here, replay, whole_run}
+use Rattle.dine_world.specs.Schedules.{after_choices, from_here, replay, whole_run}
 use Rattle.dine_graph.specs.Plan.{SeenPlan}
-use Rattle.dine_core.specs.Outcomes.{with_outcomes}
-use Rattle.dine_core.specs.World.{WorldState, start}
-use Rattle.dine_core.specs.Worlds.{IsWorldOf}
+use Rattle.dine_world.specs.Outcomes.{with_outcomes}
+use Rattle.dine_world.specs.World.{WorldState, start}
+use Rattle.dine_world.specs.Worlds.{IsWorldOf}
 use Rattle.dine_log_text.specs.Logs.{world_text}
 use Rattle.dine_log_text.proofs.replay.replay_text.Goals as goal
 

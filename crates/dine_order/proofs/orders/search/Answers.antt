@@ -1,6 +1,6 @@
 use Rattle.std.proofs.Common.{ℕ, Some, None, ◌∙◌, ap, sym, subst, map}
 use Rattle.std.proofs.lemmas.List.{length-map}
-use Rattle.dine_core.specs.Worlds.{AreOutcomesFor, lists_of}
+use Rattle.dine_world.specs.Worlds.{AreOutcomesFor, lists_of}
 use Rattle.dine_rules.specs.Shown.{plan_shown}
 use Rattle.dine_order.specs.Orders.{OrderFaultIs}
 use Rattle.dine_order.specs.private.Searching.{FirstLeft}

@@ -1,7 +1,7 @@
 use Rattle.std.proofs.Common.{◌≡◌, map}
 use Rattle.std.specs.List.{range_with_len}
 use Rattle.dine_rules.specs.World.{WorldState}
-use Rattle.dine_core.specs.Worlds.{IsWorldOf}
+use Rattle.dine_world.specs.Worlds.{IsWorldOf}
 use Rattle.dine_states.specs.Orders.{ends_by_precedence}
 use Rattle.dine_states.proofs.precedence.ends_by_precedence.Given as goal
 

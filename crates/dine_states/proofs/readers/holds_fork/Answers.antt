@@ -1,7 +1,7 @@
 use Rattle.std.proofs.Common.{ℕ, ◌==◌, ◌∙◌, ap}
 use Rattle.dine_rules.specs.Holdings.{fork_at}
 use Rattle.dine_rules.specs.World.{state_of}
-use Rattle.dine_core.specs.Whereabouts.{forks_at, forks_to}
+use Rattle.dine_world.specs.Whereabouts.{forks_at, forks_to}
 use Rattle.dine_states.proofs.Reading.{at_read, end_of}
 use Rattle.dine_states.proofs.readers.holds_fork.Goals as goal
 

@@ -1,7 +1,7 @@
 use Rattle.std.proofs.Common.{ℕ, ◌==◌, ◌∙◌, ap}
 use Rattle.dine_rules.specs.Holdings.{token_at}
 use Rattle.dine_rules.specs.World.{state_of}
-use Rattle.dine_core.specs.Whereabouts.{tokens_at, tokens_to}
+use Rattle.dine_world.specs.Whereabouts.{tokens_at, tokens_to}
 use Rattle.dine_states.proofs.Reading.{at_read, end_of}
 use Rattle.dine_states.proofs.readers.holds_token.Goals as goal
 

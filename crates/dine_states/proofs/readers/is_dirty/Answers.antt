@@ -2,7 +2,7 @@ use Rattle.std.proofs.Common.{nat_lt, Some, None, ◌∙◌}
 use Rattle.std.proofs.lemmas.Bool.{cond-true, lt-ltb}
 use Rattle.std.proofs.lemmas.Option.{same_Some}
 use Rattle.dine_graph.specs.Plan.{edge_count}
-use Rattle.dine_core.specs.Whereabouts.{is_fork_dirty}
+use Rattle.dine_world.specs.Whereabouts.{is_fork_dirty}
 use Rattle.dine_states.proofs.Reading.{dirty_read, one_fork}
 use Rattle.dine_states.proofs.readers.is_dirty.Goals as goal
 

@@ -1,7 +1,7 @@
 use Rattle.std.proofs.Common.{ℕ, ◌==◌, ◌∙◌, ap}
 use Rattle.dine_rules.specs.Letters.{forks_in}
 use Rattle.dine_rules.specs.Links.{queue_to}
-use Rattle.dine_core.specs.Whereabouts.{forks_at, forks_to}
+use Rattle.dine_world.specs.Whereabouts.{forks_at, forks_to}
 use Rattle.dine_states.proofs.Reading.{end_of, going_read}
 use Rattle.dine_states.proofs.readers.is_fork_coming.Goals as goal
 

@@ -1,6 +1,6 @@
 use Rattle.std.proofs.Common.{◌∙◌}
 use Rattle.std.proofs.lemmas.Option.{none-some, same_Some}
-use Rattle.dine_core.specs.Whereabouts.{said_in}
+use Rattle.dine_world.specs.Whereabouts.{said_in}
 use Rattle.dine_rules.specs.Local.{traffic_at}
 use Rattle.dine_rules.specs.World.{state_of}
 use Rattle.dine_states.proofs.Reading.{place_read}

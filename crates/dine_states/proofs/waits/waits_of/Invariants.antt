@@ -2,7 +2,7 @@ use Rattle.std.proofs.Common.{◌≡◌, not, All, filter, map}
 use Rattle.std.specs.List.{range_with_len}
 use Rattle.dine_rules.specs.Steps.{is_ready}
 use Rattle.dine_rules.specs.World.{WorldState, state_of}
-use Rattle.dine_core.specs.Worlds.{IsWorldOf}
+use Rattle.dine_world.specs.Worlds.{IsWorldOf}
 use Rattle.dine_states.specs.Waits.{IsWait}
 use Rattle.dine_states.proofs.waits.waits_of.Given as goal
 

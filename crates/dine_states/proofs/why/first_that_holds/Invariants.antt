@@ -1,6 +1,6 @@
 use Rattle.std.proofs.Common.{◌≡◌, drop, find}
 use Rattle.dine_rules.specs.World.{WorldState}
-use Rattle.dine_core.specs.Worlds.{IsWorldOf}
+use Rattle.dine_world.specs.Worlds.{IsWorldOf}
 use Rattle.dine_states.specs.private.ReasonsAtEnds.{holds_at}
 use Rattle.dine_states.proofs.why.first_that_holds.Given as goal
 

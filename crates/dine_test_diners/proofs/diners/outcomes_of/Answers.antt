@@ -3,7 +3,7 @@ use Rattle.std.specs.List.{range_with_len}
 use Rattle.std.proofs.lemmas.List.{get_or-map, length-map, map-append, nil_from_length}
 use Rattle.std.proofs.lemmas.List.FromFn.{get_or-map-range_with_len, length-map-range_with_len, map-range_with_len_more}
 use Rattle.dine_graph.specs.Plan.{job_count, site_count}
-use Rattle.dine_site.proofs.shared.lists.Seen.{there_is}
+use Rattle.dine_site_thread.proofs.shared.lists.Seen.{there_is}
 use Rattle.dine_test_diners.proofs.diners.outcomes_of.Goals as goal
 
 abbrev long : Vec Bool Global → ℕ

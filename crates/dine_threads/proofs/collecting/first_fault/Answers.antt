@@ -1,7 +1,7 @@
 use Rattle.std.proofs.Common.{rules, tests, is_some, sym, ◌∙◌}
 use Rattle.std.proofs.lemmas.Iterator.{YieldsList-from_slice}
 use Rattle.std.proofs.lemmas.Iterator.Search.{position_from_yields_List}
-use Rattle.dine_site.specs.declared.site_end.SiteEnd.{SiteEnd}
+use Rattle.dine_site_thread.specs.declared.site_end.SiteEnd.{SiteEnd}
 use Rattle.dine_threads.proofs.collecting.first_fault.Goals as goal
 
 pub returns-in-Some : goal.returns-in-Some

@@ -4,8 +4,8 @@ use Rattle.std.specs.Vec.Iter.{into_iter_items}
 use Rattle.std.proofs.lemmas.List.{nil_from_length}
 use Rattle.dine_token.specs.Fork.{SeenFork}
 use Rattle.dine_graph.specs.Plan.{edge_count}
-use Rattle.dine_site.specs.declared.port.Port.{Port}
-use Rattle.dine_site.specs.declared.site_end.SiteEnd.{SiteEnd}
+use Rattle.dine_site_thread.specs.declared.port.Port.{Port}
+use Rattle.dine_site_thread.specs.declared.site_end.SiteEnd.{SiteEnd}
 use Rattle.dine_threads.specs.private.Collecting.{AreForksOf, forks_left, in_slots, out_of}
 use Rattle.dine_threads.proofs.shared.lists.Zips.{mapped_split}
 use Rattle.dine_threads.proofs.shared.all_sites.Collected.{all_parts, in_slots-append, length-in_slots, moved_as, none_left}

@@ -2,8 +2,8 @@ use Rattle.std.proofs.Common.{◌≡◌, ℕ, ◌+◌, ◌≤◌, ◌++◌, Opti
 use Rattle.std.specs.Global.{Vec}
 use Rattle.std.specs.Vec.Iter.{into_iter_items, into_iter_len}
 use Rattle.dine_graph.specs.Plan.{edge_count}
-use Rattle.dine_site.specs.declared.port.Port.{Port}
-use Rattle.dine_site.specs.declared.site_end.SiteEnd.{SiteEnd}
+use Rattle.dine_site_thread.specs.declared.port.Port.{Port}
+use Rattle.dine_site_thread.specs.declared.site_end.SiteEnd.{SiteEnd}
 use Rattle.dine_threads.specs.private.Collecting.{AreForksOf, forks_left, in_slots, out_of}
 use Rattle.dine_threads.proofs.collecting.split_ends.Given as goal
 

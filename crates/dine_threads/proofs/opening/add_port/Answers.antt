@@ -1,6 +1,6 @@
 use Rattle.std.proofs.Common.{[], ◌∷◌, ◌++◌, List, map, ap, arith}
 use Rattle.std.proofs.Math.Seq.{map-set_same}
-use Rattle.dine_site.specs.Ports.{SeenPort, seen_port}
+use Rattle.dine_site_thread.specs.Ports.{SeenPort, seen_port}
 use Rattle.dine_threads.specs.declared.opening.SitePorts.{SitePorts}
 use Rattle.dine_threads.proofs.all_sites.Placing.{map_grown, map-set_read}
 use Rattle.dine_threads.proofs.opening.add_port.Goals as goal

@@ -1,7 +1,7 @@
 use Rattle.std.proofs.Common.{◌∙◌, sym, subst, vec_items, arith}
 use Rattle.dine_threads.proofs.all_sites.Placing.{ringers_at, ports_from_placed}
 use Rattle.dine_threads.specs.private.Openings.{bells_of, rows_of}
-use Rattle.dine_site.specs.Ports.{seen_ports}
+use Rattle.dine_site_thread.specs.Ports.{seen_ports}
 use Rattle.dine_threads.specs.private.Wirings.{AreRung}
 use Rattle.dine_threads.specs.declared.opening.SitePorts.{SitePorts}
 use Rattle.std.proofs.lemmas.List.{length-map}

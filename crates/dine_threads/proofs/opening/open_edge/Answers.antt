@@ -2,7 +2,7 @@ use Rattle.std.proofs.Common.{◌≡◌, ℕ, length, ap, arith}
 use Rattle.std.proofs.lemmas.List.{length-map}
 use Rattle.std.proofs.lemmas.Result.{on_ok_weaker}
 use Rattle.dine_threads.specs.private.Openings.{bells_of, rows_of}
-use Rattle.dine_site.specs.Ports.{seen_port, seen_ports}
+use Rattle.dine_site_thread.specs.Ports.{seen_port, seen_ports}
 use Rattle.dine_threads.specs.declared.opening.SitePorts.{SitePorts}
 use Rattle.dine_threads.proofs.all_sites.Placing.{placed_by, with_port}
 use Rattle.dine_threads.proofs.opening.open_edge.Goals as goal

@@ -8,17 +8,17 @@ use Rattle.dine_token.specs.Fork.{SeenFork}
 use Rattle.dine_graph.specs.Plan.{SeenPlan, edge_count, edges_of}
 use Rattle.dine_link.specs.Lanes.{seen_end}
 use Rattle.dine_link.specs.Links.{SeenLink, link_of}
-use Rattle.dine_site.specs.declared.port.Port.{Port}
-use Rattle.dine_site.specs.declared.site_end.SiteEnd.{SiteEnd}
+use Rattle.dine_site_thread.specs.declared.port.Port.{Port}
+use Rattle.dine_site_thread.specs.declared.site_end.SiteEnd.{SiteEnd}
 use Rattle.dine_threads.specs.declared.slots.EdgePair.{EdgePair}
 use Rattle.dine_threads.specs.declared.slots.Spot.{Spot}
 use Rattle.dine_threads.specs.private.Collecting.{AreJoined, AreLinksLeft, AreWholeEnds, in_slots, links_left, rows_left}
 use Rattle.dine_threads.specs.Gathered.{no_link}
-use Rattle.dine_site.specs.Ports.{SeenPort, seen_port}
+use Rattle.dine_site_thread.specs.Ports.{SeenPort, seen_port}
 use Rattle.dine_threads.specs.private.Spots.{ArePairsAt, AreFull, IsFullRow, high_spot, low_spot, row_at, slot_at}
 use Rattle.dine_threads.specs.private.Wirings.{AreWired, port_at}
 use Rattle.dine_threads.proofs.all_sites.Edges.{slice_get-push}
-use Rattle.dine_site.proofs.shared.lists.Seen.{there_is}
+use Rattle.dine_site_thread.proofs.shared.lists.Seen.{there_is}
 use Rattle.dine_link.specs.declared.lane.Lane.{Ghosts}
 
 -- what is so of each element by its index, where there is none, and where there is one more

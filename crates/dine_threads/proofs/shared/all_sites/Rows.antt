@@ -12,14 +12,14 @@ use Rattle.dine_graph.specs.Plan.{SeenPlan, IsPlan, site_count, edge_count, lo_o
 use Rattle.dine_link.specs.Links.{SeenLink}
 use Rattle.dine_rules.specs.JoinedEnds.{IsWholeLog}
 use Rattle.dine_rules.specs.Values.{value_by_amounts, has_no_set, value_by}
-use Rattle.dine_site.specs.declared.manner.Manner.{Manner}
+use Rattle.dine_site_thread.specs.declared.manner.Manner.{Manner}
 use Rattle.dine_threads.specs.declared.tables.EdgeRow.{EdgeRow}
 use Rattle.dine_threads.specs.declared.gathered.SiteOut.{SiteOut}
 use Rattle.dine_threads.specs.Gathered.{AreOutsOf}
 use Rattle.dine_threads.specs.Headline.{IsHeadline}
 use Rattle.dine_threads.specs.Tables.{AreDueValues, IsGatheredOf, edge_row, edge_rows, due_edge_rows, logged_row, site_row, site_rows, due_site_rows}
-use Rattle.dine_site.proofs.shared.lists.Seen.{there_is}
-use Rattle.dine_site.specs.declared.diner.Diner as diners
+use Rattle.dine_site_thread.proofs.shared.lists.Seen.{there_is}
+use Rattle.dine_site_thread.specs.declared.diner.Diner as diners
 
 -- what is made of the element at a place
 mapped_at : {X Y : Type 0} (f : X → Y) (xs : List X) (k : ℕ) (x : X) (d : Y) → slice_get xs k ≡ Some x → get_or (map f xs) k d ≡ f x

@@ -1,7 +1,7 @@
 use Rattle.dine_rules.specs.Local.{start_of}
-use Rattle.dine_site.specs.Ports.{seen_ports}
-use Rattle.dine_site.proofs.shared.one_site.Leaving.{left_unstarted}
-use Rattle.dine_site.proofs.shared.one_site.Obeying.{obeys_none}
+use Rattle.dine_site_thread.specs.Ports.{seen_ports}
+use Rattle.dine_site_thread.proofs.shared.one_site.Leaving.{left_unstarted}
+use Rattle.dine_site_thread.proofs.shared.one_site.Obeying.{obeys_none}
 use Rattle.dine_threads.proofs.starts.not_started.Goals as goal
 
 pub returns-clause-left : goal.returns-clause-left

@@ -5,10 +5,10 @@ use Rattle.std.proofs.lemmas.Option.{slice_get_within}
 use Rattle.std.proofs.Math.Nat.{zero-add}
 use Rattle.std.specs.Global.{Vec}
 use Rattle.dine_link.specs.Bells.{SeenBell}
-use Rattle.dine_site.specs.declared.port.Port.{Port}
+use Rattle.dine_site_thread.specs.declared.port.Port.{Port}
 use Rattle.dine_graph.specs.Plan.{edges_of, job_count, site_count}
 use Rattle.dine_rules.specs.Local.{no_traffic}
-use Rattle.dine_site_core.specs.Standing.{IsFreshFor}
+use Rattle.dine_site.specs.Standing.{IsFreshFor}
 use Rattle.dine_threads.specs.declared.opening.SitePorts.{SitePorts}
 use Rattle.dine_threads.specs.declared.starts.SiteStart.{SiteStart}
 use Rattle.dine_threads.specs.private.Openings.{HasPorts}

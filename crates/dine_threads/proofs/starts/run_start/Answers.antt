@@ -1,10 +1,10 @@
 use Rattle.std.proofs.Common.{◌≡◌, ◌++◌, ℕ, List, [], refl, sym, ap, ◌∙◌}
 use Rattle.dine_link.specs.Bells.{SeenBell}
-use Rattle.dine_site.specs.declared.manner.Manner.{Manner}
-use Rattle.dine_site.specs.declared.manner.Manner.TheVariants.{Eager, Greedy, Patient, OnCall}
-use Rattle.dine_site.specs.Doings.{empty_checks_of}
+use Rattle.dine_site_thread.specs.declared.manner.Manner.{Manner}
+use Rattle.dine_site_thread.specs.declared.manner.Manner.TheVariants.{Eager, Greedy, Patient, OnCall}
+use Rattle.dine_site_thread.specs.Doings.{empty_checks_of}
 use Rattle.std.proofs.lemmas.Option.{none-some}
-use Rattle.dine_site.specs.declared.site_end.SiteFault.TheVariants as site_fault
+use Rattle.dine_site_thread.specs.declared.site_end.SiteFault.TheVariants as site_fault
 use Rattle.dine_threads.proofs.starts.run_start.Goals as goal
 
 -- a site that did nothing has checked nothing

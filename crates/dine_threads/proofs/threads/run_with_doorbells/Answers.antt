@@ -2,7 +2,7 @@ use Rattle.std.proofs.Common.{◌≡◌, ◌∙◌, ℕ, All, List, None, Some, 
 use Rattle.std.specs.List.{position}
 use Rattle.dine_graph.specs.Plan.{site_count}
 use Rattle.dine_threads.specs.declared.gathered.SiteOut.{SiteOut}
-use Rattle.dine_site.specs.declared.site_end.SiteEnd.{SiteEnd}
+use Rattle.dine_site_thread.specs.declared.site_end.SiteEnd.{SiteEnd}
 use Rattle.dine_threads.specs.Brokens.{AllClosedEarly, AreStatesLeft}
 use Rattle.dine_threads.specs.private.Collecting.{out_of, rows_left}
 use Rattle.dine_threads.specs.Gathered.{AreFinishedOuts, AreOutsOf, IsClosedWhole, IsLowestFault}

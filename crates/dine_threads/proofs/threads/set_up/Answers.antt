@@ -1,5 +1,5 @@
 use Rattle.std.proofs.Common.{sym, subst, vec_items, arith}
-use Rattle.dine_site.specs.Ports.{seen_ports}
+use Rattle.dine_site_thread.specs.Ports.{seen_ports}
 use Rattle.dine_threads.specs.private.Wirings.{AreRung, AreWired}
 use Rattle.dine_threads.specs.private.Openings.{bells_of}
 use Rattle.dine_threads.specs.private.Setups.{rows_of_starts}

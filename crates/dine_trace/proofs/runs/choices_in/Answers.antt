@@ -2,7 +2,7 @@ use Rattle.std.proofs.Common.{◌≡◌, ◌≤◌, ◌+◌, ℕ, List, Some, dr
 use Rattle.dine_rules.specs.declared.events.Event.{Event}
 use Rattle.dine_rules.specs.declared.events.EventKind.TheVariants as event
 use Rattle.dine_rules.specs.World.{enabled_events, start}
-use Rattle.dine_core.specs.Worlds.{WorldSteps}
+use Rattle.dine_world.specs.Worlds.{WorldSteps}
 use Rattle.dine_trace.proofs.Choices.{GoesThrough, drop_all, drop_event, if_ok, next_enabled, went_on, went_through}
 use Rattle.dine_trace.proofs.runs.choices_in.Goals as goal
 

@@ -5,8 +5,8 @@ use Rattle.dine_rules.specs.declared.events.Event.{Event}
 use Rattle.dine_rules.specs.declared.events.EventKind.{EventKind}
 use Rattle.dine_rules.specs.Schedules.{Counted}
 use Rattle.dine_rules.specs.World.{Reaches, WorldState}
-use Rattle.dine_core.specs.Worlds.{forks_seen}
-use Rattle.dine_site.specs.declared.manner.Manner.TheVariants.{Eager}
+use Rattle.dine_world.specs.Worlds.{forks_seen}
+use Rattle.dine_site_thread.specs.declared.manner.Manner.TheVariants.{Eager}
 use Rattle.dine_threads.specs.declared.gathered.SiteOut.{SiteOut}
 use Rattle.dine.specs.PlanDiners.{SeenPlanDiner}
 use Rattle.dine_trace.proofs.runs.choices_over.Goals as goal

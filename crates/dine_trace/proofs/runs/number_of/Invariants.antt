@@ -1,6 +1,6 @@
 use Rattle.std.proofs.Common.{◌≡◌, ◌<◌, ℕ, Some, slice_get}
 use Rattle.dine_rules.specs.World.{WorldState, enabled_events}
-use Rattle.dine_core.specs.Worlds.{IsWorldOf}
+use Rattle.dine_world.specs.Worlds.{IsWorldOf}
 use Rattle.dine_trace.proofs.runs.number_of.Given as goal
 
 -- none of the numbers so far is that of the event

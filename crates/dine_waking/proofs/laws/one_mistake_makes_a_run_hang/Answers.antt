@@ -1,7 +1,7 @@
 -- each step is computed
 use Rattle.std.proofs.Common.{◌≡◌, ℕ, true, false, List, [], ◌∷◌, ◌++◌, refl, arith}
 use Rattle.dine_rules.specs.declared.events.EventKind.TheVariants as event
-use Rattle.dine_rules.specs.declared.letters.Kind4.TheVariants as kind
+use Rattle.dine_rules.specs.declared.letters.LetterKind.TheVariants as kind
 use Rattle.dine_rules.specs.World.{IsComplete}
 use Rattle.dine_waking.specs.Examples.{asleep_run, at_work, two_workers}
 use Rattle.dine_waking.specs.Mistakes.{hung_run, with_one_fork_more}

@@ -1,6 +1,6 @@
 -- each step is computed
 use Rattle.std.proofs.Common.{[], ◌∷◌, false, refl, arith}
-use Rattle.dine_rules.specs.declared.letters.Kind4.TheVariants as kind
+use Rattle.dine_rules.specs.declared.letters.LetterKind.TheVariants as kind
 use Rattle.dine_waking.specs.Examples.{asleep_run, at_work, two_workers, woken_run}
 use Rattle.dine_waking.specs.Runs.{ByRinging, ByWaking, HasToWake, IsToBeWoken, Run, RunStep}
 use Rattle.dine_waking.proofs.TwoSites.{is_plan}

@@ -1,8 +1,8 @@
 use Rattle.std.proofs.Common.{◌≡◌, refl, ap, subst}
 use Rattle.dine_rules.specs.Steps as step
 use Rattle.dine_rules.specs.Steps.{after}
-use Rattle.dine_site_core.specs.Core.{SeenCore, forks_in_hand}
-use Rattle.dine_site_core.specs.Standing.{CoreSteps, ForEachState, all_places}
+use Rattle.dine_site.specs.Core.{SeenCore, forks_in_hand}
+use Rattle.dine_site.specs.Standing.{CoreSteps, ForEachState, all_places}
 use Rattle.dine_ffi.specs.OwnSites.{SeenOwnSite}
 use Rattle.dine_ffi.proofs.own_site.OwnSite.begin.Goals as goal
 

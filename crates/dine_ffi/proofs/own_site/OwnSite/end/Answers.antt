@@ -1,7 +1,7 @@
 use Rattle.std.proofs.Common.{◌≡◌, refl, sym, ◌∙◌, ap, subst}
 use Rattle.dine_rules.specs.Steps as step
-use Rattle.dine_site_core.specs.Core.{SeenCore, forks_in_hand}
-use Rattle.dine_site_core.specs.Standing.{CoreStep, ForEachState, all_places}
+use Rattle.dine_site.specs.Core.{SeenCore, forks_in_hand}
+use Rattle.dine_site.specs.Standing.{CoreStep, ForEachState, all_places}
 use Rattle.dine_ffi.specs.OwnSites.{SeenOwnSite}
 use Rattle.dine_ffi.proofs.own_site.OwnSite.end.Goals as goal
 

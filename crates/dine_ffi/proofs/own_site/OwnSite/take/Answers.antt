@@ -8,38 +8,38 @@ use Rattle.dine_rules.specs.declared.letters.Letter.{Letter}
 use Rattle.dine_rules.specs.declared.letters.Letter.TheVariants as letter
 use Rattle.dine_rules.specs.Local.{LocalState, edge_at}
 use Rattle.dine_rules.specs.Steps as step
-use Rattle.dine_site_core.specs.Standing.{ReportsBreach}
+use Rattle.dine_site.specs.Standing.{ReportsBreach}
 use Rattle.dine_wire.specs.Carried.{IsOfKept}
-use Rattle.dine_wire.specs.Notes.{IsInBytes, told_of}
+use Rattle.dine_wire.specs.Notes.{IsInBytes, report_of}
 use Rattle.dine_wire.specs.Runs.{IsNoLetter, bytes_in_run}
 use Rattle.dine_wire.specs.declared.note.Note.{Note}
-use Rattle.dine_wire.specs.declared.note.Told.{Told}
+use Rattle.dine_wire.specs.declared.note.Report.{Report}
 use Rattle.dine_ffi.specs.Answers.{IsRefused, breach_status, wire_status}
-use Rattle.dine_ffi.specs.OwnSites.{SeenOwnSite, SiteSteps, TakesOrRefuses, ToldRefuses, WordRefuses}
+use Rattle.dine_ffi.specs.OwnSites.{SeenOwnSite, SiteSteps, TakesOrRefuses, ReportRefuses, WordRefuses}
 use Rattle.dine_ffi.specs.Shelves.{kept_at, taken_off}
 use Rattle.dine_ffi.proofs.NotTaken.{done_or, of_other_run, of_own_run, other_edge_refuses, place_refuses, refused_is, word_refuses}
-use Rattle.dine_ffi.proofs.Told.{fork_takes, word_takes}
+use Rattle.dine_ffi.proofs.Report.{fork_takes, word_takes}
 use Rattle.dine_ffi.proofs.own_site.OwnSite.take.Goals as goal
 
 -- what the call does with the note of a letter other than a Fork, by what taking that letter does
 word_outcome : (bytes : List ℕ) (old new : SeenOwnSite) (run : ℕ) (note : Note) (i : ℕ) (l : Letter) (r : ℤ)
     → run ≡ old.run → bytes ≡ bytes_in_run run note → IsInBytes note → run < 2 ^ 64 → (edge_at old.plan old.core.site i ≡ note.edge) × (i < length (edges_of old.plan old.core.site))
-    → note.told ≡ told_of l → IsOfKept old.plan (kept_at i old.shelf) (edge_at old.plan old.core.site i) l → taken_off i l old.shelf ≡ old.shelf
-    → ((state : LocalState) → WordRefuses i l r state old → ToldRefuses i note.edge (told_of l) r state old)
+    → note.report ≡ report_of l → IsOfKept old.plan (kept_at i old.shelf) (edge_at old.plan old.core.site i) l → taken_off i l old.shelf ≡ old.shelf
+    → ((state : LocalState) → WordRefuses i l r state old → ReportRefuses i note.edge (report_of l) r state old)
     → (r ≡ pos 0 → SiteSteps (step.Take i l) old new) → ((r ≡ pos 0 → ⊥) → new ≡ old) → ((r ≡ pos 0 → ⊥) → IsRefused r)
     → ((r ≡ pos 0 → ⊥) → i < length old.core.places → (b : Breach) × ReportsBreach old.core i l (Some b) × (r ≡ breach_status b))
     → TakesOrRefuses bytes r old new
-word_outcome bytes old new run note i l r same_run in_run in_bytes small at told of_kept same_shelf as_told did stays negative why =
+word_outcome bytes old new run note i l r same_run in_run in_bytes small at report of_kept same_shelf as_report did stays negative why =
     let read : bytes ≡ bytes_in_run old.run note = in_run ∙ ap (λ (x : ℕ). bytes_in_run x note) same_run in
     record {
       outcome = done_or r _ _
-          (λ zero. (zero, (i, l, word_takes bytes note i old new read at.0 l told of_kept same_shelf (did zero))))
+          (λ zero. (zero, (i, l, word_takes bytes note i old new read at.0 l report of_kept same_shelf (did zero))))
           negative
           (λ refused state is. (
             stays refused,
             place_refuses bytes note old read in_bytes state is i at.0 at.1 r
-                (λ h. subst (λ (t : Told). ToldRefuses i note.edge t r state old) (sym told)
-                (as_told state (word_refuses bytes note old read in_bytes state is i at.0 at.1 l r (why refused) h))),
+                (λ h. subst (λ (t : Report). ReportRefuses i note.edge t r state old) (sym report)
+                (as_report state (word_refuses bytes note old read in_bytes state is i at.0 at.1 l r (why refused) h))),
           ));
       other_run = λ long other. absurd (of_own_run old.run note bytes (subst (λ (x : ℕ). x < 2 ^ 64) same_run small) read other);
     }
@@ -88,7 +88,7 @@ returns-in-Fork c =
           (λ refused state is. (
             c.take_fork.ensures.refused refused state is,
             place_refuses c.args.bytes.now note old read in_bytes state is i place c.in-Some.ensures.1 r
-                (λ h. subst (λ (t : Told). ToldRefuses i note.edge t r state old) (sym c.in-Fork.is) (c.take_fork.ensures.why refused state is h)),
+                (λ h. subst (λ (t : Report). ReportRefuses i note.edge t r state old) (sym c.in-Fork.is) (c.take_fork.ensures.why refused state is h)),
           ));
       other_run = λ long other. absurd (of_own_run c.args.self.now.run note c.args.bytes.now small read other);
     })

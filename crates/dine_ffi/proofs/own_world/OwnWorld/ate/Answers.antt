@@ -3,7 +3,7 @@ use mir.Val.{SFits}
 use Rattle.std.proofs.Common.{rules, ℕ, slice_get, sym, ◌∙◌, subst}
 use Rattle.std.proofs.lemmas.Int.{to_z-of_z}
 use Rattle.dine_rules.specs.Local.{LocalState}
-use Rattle.dine_core.specs.Worlds.{IsWorldOf}
+use Rattle.dine_world.specs.Worlds.{IsWorldOf}
 use Rattle.dine_ffi.proofs.OfSites.{none_answer, some_answer}
 use Rattle.dine_ffi.proofs.own_world.OwnWorld.ate.Goals as goal
 

@@ -3,7 +3,7 @@ use mir.Val.{SFits}
 use Rattle.std.proofs.Common.{rules, ◌≡◌, ℕ, ◌<◌, ◌^◌, pos, sym, ◌∙◌, subst}
 use Rattle.std.proofs.lemmas.Int.{to_z-of_z}
 use Rattle.dine_rules.specs.Bound.{bound_of}
-use Rattle.dine_core.specs.Worlds.{IsWorldOf}
+use Rattle.dine_world.specs.Worlds.{IsWorldOf}
 use Rattle.dine_ffi.proofs.own_world.OwnWorld.bound.Goals as goal
 
 pub returns : goal.returns

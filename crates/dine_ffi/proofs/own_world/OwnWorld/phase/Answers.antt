@@ -3,7 +3,7 @@ use mir.Val.{SFits}
 use Rattle.std.proofs.Common.{rules, pos, slice_get, sym, ◌∙◌, ap, subst}
 use Rattle.std.proofs.lemmas.Int.{to_z-of_z}
 use Rattle.dine_rules.specs.Local.{LocalState}
-use Rattle.dine_core.specs.Worlds.{IsWorldOf}
+use Rattle.dine_world.specs.Worlds.{IsWorldOf}
 use Rattle.dine_ffi.specs.Answers.{number_of}
 use Rattle.dine_ffi.proofs.OfSites.{none_answer, some_answer}
 use Rattle.dine_ffi.proofs.own_world.OwnWorld.phase.Goals as goal

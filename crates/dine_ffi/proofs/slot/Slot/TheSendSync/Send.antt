@@ -1,4 +1,4 @@
--- A slot may go to another thread: its thing may, and the heap frees a block on any thread.
+-- A slot may go to another thread: its contents may, and the heap frees a block on any thread.
 use mir.Raw.{raw}
 use base.Shift.{Keyless}
 use denote.Memory.{lone}
@@ -11,14 +11,14 @@ use Rattle.std.specs.Global.{Global}
 use Rattle.std.proofs.Crossing as heap
 use Rattle.std_alloc.proofs.SendSync.{quiet, lies}
 use Rattle.std_heap.proofs.Global.TheSendSync as handle
-use Rattle.dine_ffi.specs.contracts.thing.Thing as Thing
-use Rattle.dine_ffi.proofs.thing.Thing.TheSendSync.{the_send as thing}
+use Rattle.dine_ffi.specs.contracts.contents.Contents as Contents
+use Rattle.dine_ffi.proofs.contents.Contents.TheSendSync.{the_send as contents}
 use Rattle.dine_slot.specs.Slots.{slot_owns}
 use Rattle.dine_ffi.specs.contracts.slot.Slot.{the_row, the_type}
 
-keyless : (alloc : Global) (p : Ptr) (o : Option Thing.the_row.Denot) → Keyless (slot_owns Thing.the_row alloc p o)
+keyless : (alloc : Global) (p : Ptr) (o : Option Contents.the_row.Denot) → Keyless (slot_owns Contents.the_row alloc p o)
 keyless alloc p None = tt
-keyless alloc p (Some x) = (lies Thing.the_row thing p x, heap.frees.frees alloc (raw (lone Thing.the_row.mir)) p)
+keyless alloc p (Some x) = (lies Contents.the_row contents p x, heap.frees.frees alloc (raw (lone Contents.the_row.mir)) p)
 
 pub send : IsSend the_row
 send =

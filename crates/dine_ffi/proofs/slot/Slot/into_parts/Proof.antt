@@ -27,7 +27,7 @@ use Rattle.std_alloc.proofs.BoxSteps.Form.{D, B, word, box_typed}
 use Rattle.std_alloc.proofs.BoxSteps.Steps.{box_out, box_in}
 use Rattle.dine_ffi.proofs.AsBox.{E, FromSlot as From}
 use Rattle.dine_ffi.specs.contracts.slot.Slot as Slot
-use Rattle.dine_ffi.specs.contracts.thing.Thing as Thing
+use Rattle.dine_ffi.specs.contracts.contents.Contents as Contents
 use Rattle.dine_ffi.specs.contracts.slot.Slot.into_parts as F
 use Rattle.dine_ffi.specs.contracts.slot.Slot.into_parts.Key.{name as #self}
 use Rattle.dine_ffi.proofs.slot.Slot.into_parts.Statement as stated
@@ -45,10 +45,10 @@ module _ {M : Type 1} {𝓤 : Ura M} (𝓛 : Logic 𝓤) (at_mem : Memory → SP
       let Post = (walk_of 𝓛 F.ended stayed (F.clauses 𝓛 at_mem run)).post z in
       let given : (Slot.the_row).Denot = z.0.3.0 in
       let To = type_at (F.signature).result tt in
-      let Holds : Type 0 = (thing : Thing.the_row.Denot) × (given.held ≡ Some thing) in
+      let Holds : Type 0 = (contents : Contents.the_row.Denot) × (given.held ≡ Some contents) in
       qed 𝓛 ((‵ ftrue ⊛ ‵ (fsep ((Slot.the_row).own_val given z.0.4.0) ftrue)) ∷ raw (fact 𝓤 Holds) ∷ []) ∵ move ! (1 ∷ []) $ heard ! Holds (λ holds. let v : D E = record { ptr = given.ptr; alloc = given.alloc; value = holds.0 } in
       let made : To.Denot = record { ptr = v.ptr; alloc = v.alloc; value = v.value } in split ! $ drop ! $ fsplit ! $
-      rewrite ! 0 (λ (o : Option Thing.the_row.Denot). ‵ ((Slot.the_row).own_val (record given { held = o }) z.0.4.0)) holds.1 refl $ use1 𝓛 (‵ ((B E).own_val v z.0.4.0)) (id⊢ 𝓤 _) $
+      rewrite ! 0 (λ (o : Option Contents.the_row.Denot). ‵ ((Slot.the_row).own_val (record given { held = o }) z.0.4.0)) holds.1 refl $ use1 𝓛 (‵ ((B E).own_val v z.0.4.0)) (id⊢ 𝓤 _) $
       box_out E ! v z.0.4.0 (λ b o hv e ws fa. box_in E ! v b o v.value e refl $ use1 𝓛 (‵ (To.own_val made (word E hv b o ∷ []))) (id⊢ 𝓤 _) $ move ! (1 ∷ 2 ∷ []) $ drop ! $ drop ! $
       let w = word E hv b o in
       let Γ : List (Item 𝓤) = ‵ (To.own_val made (w ∷ [])) ∷ [] in

@@ -2,7 +2,7 @@
 use Rattle.std.proofs.Common.{◌<◌, is_ok, ◌∙◌, ap, arith, subst, sym, vec_len}
 use Rattle.std.proofs.lemmas.List.{map-append}
 use Rattle.dine_token.specs.Meal.{SeenMeal}
-use Rattle.dine_site.specs.WholeMeals.{IsOwnMeal, IsWhole, IsWholeIn}
+use Rattle.dine_site_thread.specs.WholeMeals.{IsOwnMeal, IsWhole, IsWholeIn}
 use Rattle.dine_jobs.specs.JobRuns.{numbers_of}
 use Rattle.dine_jobs.proofs.Tables.{forks_within}
 use Rattle.dine_jobs.proofs.Calls.{failed_ill, failed_well, ran_more}

@@ -5,7 +5,7 @@ use Rattle.std.proofs.lemmas.List.FromFn.{map-range_with_len_more}
 use Rattle.dine_graph.specs.Plan.{job_count}
 use Rattle.dine_rules.specs.declared.events.EventKind.{EventKind}
 use Rattle.dine_rules.specs.Journals.{journal_of}
-use Rattle.dine_core.specs.Worlds.{lists_of}
+use Rattle.dine_world.specs.Worlds.{lists_of}
 use Rattle.dine_rules.specs.Shown.{shown_in}
 use Rattle.dine_order.proofs.orders.outcomes.shown_by.Goals as goal
 

@@ -2,7 +2,7 @@ use Rattle.std.proofs.Common.{◌≡◌, ◌≤◌, map, vec_capacity, vec_len}
 use Rattle.std.specs.List.{range_with_len}
 use Rattle.dine_graph.specs.Plan.{job_count, site_count}
 use Rattle.dine_rules.specs.Journals.{journal_of}
-use Rattle.dine_core.specs.Worlds.{lists_of}
+use Rattle.dine_world.specs.Worlds.{lists_of}
 use Rattle.dine_rules.specs.Shown.{shown_in}
 use Rattle.dine_order.proofs.orders.outcomes.shown_by.Given as goal
 

@@ -1,5 +1,5 @@
 use Rattle.std.proofs.Common.{◌≡◌, ◌<◌, Bool, List, count_by, slice_set, sym, ◌∙◌, subst, map}
-use Rattle.dine_core.specs.Worlds.{WorldSteps}
+use Rattle.dine_world.specs.Worlds.{WorldSteps}
 use Rattle.dine_order.proofs.Outcomes.{err_of, none_from, ok_of}
 use Rattle.dine_order.proofs.Placing.{found, not_ready_disabled, not_ready_without, search_as, searched, taken_out}
 use Rattle.dine_order.proofs.Sets.{fewer}

@@ -2,7 +2,7 @@ use Rattle.std.proofs.Common.{◌≡◌, ℕ, List, [], ◌∷◌, ◌++◌, Som
 use Rattle.std.proofs.lemmas.Bool.{false≢true}
 use Rattle.dine_rules.specs.Schedules.{from_here, replay}
 use Rattle.dine_rules.specs.World.{WorldState}
-use Rattle.dine_core.specs.Worlds.{IsWorldOf, RunsTo, SeenWorld}
+use Rattle.dine_world.specs.Worlds.{IsWorldOf, RunsTo, SeenWorld}
 use Rattle.dine_states.specs.declared.events.Enabled.{Enabled}
 use Rattle.dine_states.specs.contracts.schedule.Schedule.{the_view}
 use Rattle.dine_states.specs.Schedules.{SeenSchedule, run_of}

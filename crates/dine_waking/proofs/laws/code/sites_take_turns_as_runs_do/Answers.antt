@@ -4,9 +4,9 @@ use Rattle.std.proofs.lemmas.Bool.{false≢true}
 use Rattle.dine_rules.specs.declared.events.EventKind.{EventKind}
 use Rattle.dine_rules.specs.declared.events.EventKind.TheVariants as event
 use Rattle.dine_rules.specs.Steps.{Step, Give, Ask, Hungry, Begin, End, Quit, Done, Close, Break, Take}
-use Rattle.dine_site.specs.Doings.{IsInTurn, MayTakeBefore, is_on_call, own_event}
-use Rattle.dine_site.specs.declared.manner.Manner.{Manner}
-use Rattle.dine_site.specs.declared.manner.Manner.TheVariants.{Eager, Greedy, Patient, OnCall}
+use Rattle.dine_site_thread.specs.Doings.{IsInTurn, MayTakeBefore, is_on_call, own_event}
+use Rattle.dine_site_thread.specs.declared.manner.Manner.{Manner}
+use Rattle.dine_site_thread.specs.declared.manner.Manner.TheVariants.{Eager, Greedy, Patient, OnCall}
 use Rattle.dine_waking.specs.Runs.{takes_letters}
 use Rattle.dine_waking.proofs.laws.code.sites_take_turns_as_runs_do.Goals as goal
 

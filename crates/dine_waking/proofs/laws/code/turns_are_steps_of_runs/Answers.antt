@@ -3,12 +3,12 @@ use Rattle.std.proofs.Common.{◌≡◌, ◌⊎◌, ℕ, Bool, true, false, [], 
 use Rattle.std.proofs.lemmas.Option.{same_Some}
 use Rattle.dine_rules.specs.declared.events.EventKind.{EventKind}
 use Rattle.dine_rules.specs.Steps.{Step, Give, Ask, Hungry, Begin, End, Quit, Done, Close, Break, Take}
-use Rattle.dine_site.specs.Doings.{MayTakeBefore, event_of, is_on_call, own_event}
+use Rattle.dine_site_thread.specs.Doings.{MayTakeBefore, event_of, is_on_call, own_event}
 use Rattle.dine_link.specs.Deeds.{waking}
 use Rattle.dine_rules.specs.Local.{neighbour_at}
-use Rattle.dine_site.specs.Threads.{acts_alone, ringing_for}
-use Rattle.dine_site.specs.declared.manner.Manner.{Manner}
-use Rattle.dine_site.specs.declared.manner.Manner.TheVariants.{Eager, Greedy, Patient, OnCall}
+use Rattle.dine_site_thread.specs.Threads.{acts_alone, ringing_for}
+use Rattle.dine_site_thread.specs.declared.manner.Manner.{Manner}
+use Rattle.dine_site_thread.specs.declared.manner.Manner.TheVariants.{Eager, Greedy, Patient, OnCall}
 use Rattle.dine_waking.specs.Code.{rings_due, wakes_due}
 use Rattle.dine_waking.specs.Runs.{after_ringing, doing_after, number_there, takes_letters, thread_after_ring, thread_of}
 use Rattle.dine_waking.proofs.Bounded.{reached_keeps}

@@ -1,7 +1,7 @@
 -- each step is computed
 use Rattle.std.proofs.Common.{ℕ, Bool, true, false, List, [], ◌∷◌, refl, arith}
 use Rattle.dine_rules.specs.declared.events.EventKind.TheVariants as event
-use Rattle.dine_rules.specs.declared.letters.Kind4.TheVariants as kind
+use Rattle.dine_rules.specs.declared.letters.LetterKind.TheVariants as kind
 use Rattle.dine_rules.specs.declared.phase.Phase.TheVariants.{Hungry, Thinking}
 use Rattle.dine_rules.specs.Local.{LocalState}
 use Rattle.dine_waking.specs.Examples.{at_work, request, state_in}

@@ -1,6 +1,6 @@
 use Rattle.std.proofs.Common.{ℕ, [], ◌∷◌, true, false, refl, arith}
 use Rattle.dine_rules.specs.declared.events.EventKind.TheVariants as event
-use Rattle.dine_rules.specs.declared.letters.Kind4.TheVariants as kind
+use Rattle.dine_rules.specs.declared.letters.LetterKind.TheVariants as kind
 use Rattle.dine_rules.specs.declared.phase.Phase.TheVariants.{Hungry, Thinking}
 use Rattle.dine_waking.specs.Examples.{at_work, state_in}
 use Rattle.dine_waking.specs.MannerExamples.{rung_run, unrung_run}

@@ -1,5 +1,0 @@
-use Rattle.std.proofs.Common.{rules}
-use Rattle.dine_site.proofs.call_log.CallLog.open.Goals as goal
-
-pub returns : goal.returns
-returns c = search rules

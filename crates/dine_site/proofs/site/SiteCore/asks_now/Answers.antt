@@ -1,0 +1,21 @@
+use Rattle.std.proofs.Common.{◌≡◌, ◌≤◌, true, false, length, arith}
+use Rattle.std.proofs.lemmas.Grind.{common_steps}
+use Rattle.dine_set.specs.Marks.{marks_of}
+use Rattle.dine_rules.specs.Local.{is_hungry}
+use Rattle.dine_site.specs.Places.{can_ask_at}
+use Rattle.dine_site.proofs.own_events.MarkedEvents.{marked_now, none_now}
+use Rattle.dine_site.proofs.site.SiteCore.asks_now.Goals as goal
+
+pub returns-then-ne : goal.returns-then-ne
+returns-then-ne c =
+    let core = c.args.self.now in
+    let not_now : (is_hungry core.phase) ≡ false = grind (arith, common_steps) in
+    let few : length core.places ≤ 64 = grind (arith, common_steps) in
+    none_now can_ask_at core.places _ c.empty.result not_now few c.empty.ensures
+
+pub returns : goal.returns
+returns c =
+    let core = c.args.self.now in
+    let now : (is_hungry core.phase) ≡ true = grind (arith, common_steps) in
+    let are : c.asks-asks.result ≡ marks_of can_ask_at core.places = grind (arith, common_steps) in
+    marked_now can_ask_at core.places _ c.asks-asks.result now are

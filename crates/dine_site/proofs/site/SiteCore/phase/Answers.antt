@@ -1,0 +1,5 @@
+use Rattle.std.proofs.Common.{rules}
+use Rattle.dine_site.proofs.site.SiteCore.phase.Goals as goal
+
+pub returns : goal.returns
+returns c = search rules

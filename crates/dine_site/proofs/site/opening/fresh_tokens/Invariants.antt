@@ -1,0 +1,7 @@
+use Rattle.std.proofs.Common.{◌≡◌, ◌++◌, drop}
+use Rattle.dine_site.specs.Core.{fresh_tokens}
+use Rattle.dine_site.proofs.site.opening.fresh_tokens.Given as goal
+
+-- with those of the edges to come, they are all
+abbrev pub invariant-loop-edge : goal.invariant-loop-edge
+invariant-loop-edge l = l.tokens.items ++ fresh_tokens l.plan l.site (drop l.edge-index l.edge-items) ≡ fresh_tokens l.plan l.site l.edge-items

@@ -1,5 +1,0 @@
-use Rattle.std.proofs.Common.{rules}
-use Rattle.dine_site.proofs.site_loop.running.Running.wants.Goals as goal
-
-pub returns : goal.returns
-returns g c = search rules

@@ -1,3 +1,0 @@
-pub mod shared
-pub mod one_site
-pub mod own_events

@@ -1,8 +1,0 @@
-use Rattle.std.proofs.Common.{rules}
-use Rattle.dine_site_core.proofs.site.SiteCore.has_fork.Goals as goal
-
-pub returns-clause-fork : goal.returns-clause-fork
-returns-clause-fork c = search rules
-
-pub returns-clause-by_lists : goal.returns-clause-by_lists
-returns-clause-by_lists c = search rules

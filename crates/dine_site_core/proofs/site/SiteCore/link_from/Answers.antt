@@ -1,5 +1,0 @@
-use Rattle.std.proofs.Common.{rules}
-use Rattle.dine_site_core.proofs.site.SiteCore.link_from.Goals as goal
-
-pub returns : goal.returns
-returns c = search rules

@@ -1,8 +1,0 @@
-use Rattle.std.proofs.Common.{rules}
-use Rattle.dine_site_core.proofs.site.SiteCore.next_phase.Goals as goal
-
-pub returns-then-may_hungry : goal.returns-then-may_hungry
-returns-then-may_hungry c = search rules
-
-pub returns : goal.returns
-returns c = search rules

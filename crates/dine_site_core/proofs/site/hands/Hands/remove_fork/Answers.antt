@@ -1,5 +1,0 @@
-use Rattle.std.proofs.Common.{rules}
-use Rattle.dine_site_core.proofs.site.hands.Hands.remove_fork.Goals as goal
-
-pub returns-clause-fork : goal.returns-clause-fork
-returns-clause-fork c = search rules

@@ -1,5 +1,0 @@
-use Rattle.dine_site_core.proofs.shared.own_events.Unwanted.{unwanted_next, unwanted_wants}
-use Rattle.dine_site_core.proofs.waking.unwanted_letters_enable_nothing.Goals as goal
-
-pub returns : goal.returns
-returns c = record { next = unwanted_next; wants = unwanted_wants }

@@ -1,8 +1,0 @@
-pub mod Core
-pub mod Places
-pub mod Said
-pub mod LinkNumbers
-pub mod Standing
-pub mod NextEvent
-pub mod CoreWants
-pub mod private

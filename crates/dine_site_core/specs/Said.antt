@@ -1,7 +1,0 @@
--- Which of Done and Close were put and taken at a place, by what the core keeps.
-use Rattle.dine_site_core.specs.declared.site.places.Place.{Place}
-use Rattle.dine_site_core.specs.declared.site.said.Said.{Said}
-
--- which of Done and Close were put and taken at the place
-abbrev pub said_at : Place → Said
-said_at place = record { done_put = place.done_put; done_taken = place.done_taken; close_put = place.close_put; close_taken = place.close_taken }

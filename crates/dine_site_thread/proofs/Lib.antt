@@ -1,0 +1,3 @@
+pub mod shared
+pub mod lists
+pub mod one_site

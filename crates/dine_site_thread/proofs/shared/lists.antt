@@ -1,0 +1,3 @@
+-- Lists of which one element is read or written.
+pub mod Lists
+pub mod Seen

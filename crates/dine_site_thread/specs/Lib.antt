@@ -1,0 +1,13 @@
+pub mod Doings
+pub mod Diners
+pub mod WholeMeals
+pub mod Starts
+pub mod CallLogs
+pub mod Ports
+pub mod Times
+pub mod Threads
+pub mod Endings
+pub mod SiteEnds
+pub mod SiteRuns
+pub mod FaultWords
+pub mod private
