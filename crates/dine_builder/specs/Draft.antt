@@ -79,6 +79,10 @@ with_value e value d = record d { edges = slice_set d.edges e (record (slice_ind
 abbrev pub with_resigning : ℕ → Draft → Draft
 with_resigning s d = record d { sites = slice_set d.sites s (record (site_at s d) { resigns = true }) }
 
+-- the draft with one more site, which has as many jobs as a site may have, and drops those left after one failed
+abbrev pub with_open_site : List ℕ → Draft → Draft
+with_open_site name d = with_resigning (length d.sites) (with_site name MAX_JOBS d)
+
 -- the draft with another job in the place of job k of a site, which it has
 abbrev pub with_job : ℕ → ℕ → DraftJob → Draft → Draft
 with_job s k job d = record d { sites = slice_set d.sites s (record (site_at s d) { jobs = slice_set (site_at s d).jobs (k - 1) job }) }

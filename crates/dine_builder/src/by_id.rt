@@ -1,12 +1,12 @@
 //! The calls of a builder, by which a program adds and changes.
 ghost use Rattle.std.specs.Prelude.{◌≡◌, IfErr, IfOk, OnErr, OnOk, is_ok, length};
 ghost use Rattle.dine_builder.specs.Draft.{has_edge, has_job, has_site, with_act, with_edge, with_failure};
-ghost use Rattle.dine_builder.specs.Draft.{with_resigning, with_site, with_turns, with_value};
+ghost use Rattle.dine_builder.specs.Draft.{with_open_site, with_resigning, with_site, with_turns, with_value};
 
 use crate::absent::Missing;
 use crate::drafts::PlanBuilder;
 use dine_graph::{EdgeId, SiteId};
-use dine_token::Act;
+use dine_token::{Act, MAX_JOBS};
 use std::alloc::AllocError;
 
 impl PlanBuilder {
@@ -26,6 +26,22 @@ impl PlanBuilder {
             Ok(number) => Ok(SiteId(number)),
             Err(error) => Err(error),
         }
+    }
+
+    /// Adds a site of this name for an open run, and returns its number: it has 1,000 jobs, which is as many as a site
+    /// may do in an epoch, and resigns.
+    ///
+    /// # Errors
+    ///
+    /// Returns `AllocError` if an allocation fails, or if there are 4,294,967,295 sites. The builder stays as it is.
+    pub fn open_site(&mut self, name: &str) -> Result<SiteId, AllocError>
+        ensures number { IfOk result (λ site. site.0 ≡ length self.old.sites) }
+        ensures changed { OnOk result (self.new ≡ with_open_site name.now self.old) }
+        ensures refused { OnErr result (self.new ≡ self.old) }
+    {
+        let site = self.site(name, MAX_JOBS)?;
+        self.set_resigning(site.0);
+        Ok(site)
     }
 
     /// Adds an edge between two sites, in either order, and returns its number. At first its value is 0. The sites may

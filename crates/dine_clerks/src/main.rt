@@ -15,7 +15,7 @@ use std::{env, thread};
 // How many clerks there are, and how many transfers each brings if no argument says another number.
 const CLERKS: u32 = 4;
 
-const TRANSFERS: u32 = 1_200;
+const TRANSFERS: u32 = 5_000;
 
 const START: u64 = 1_000;
 
@@ -91,8 +91,7 @@ fn ring(alloc: Global, sites: u32) -> Result<Plan> {
     let mut plan = PlanBuilder::open(alloc);
     for n in 0..sites {
         let name = format!(in alloc; "t{n}")?;
-        let site = plan.site(name.as_str(), 1_000)?;
-        plan.resign(site)?;
+        plan.open_site(name.as_str())?;
     }
     for n in 0..sites {
         let next = n.saturating_add(1).checked_rem(sites).unwrap_or(0);
@@ -105,8 +104,7 @@ fn grid(alloc: Global) -> Result<Plan> {
     let mut plan = PlanBuilder::open(alloc);
     for n in 0..16u32 {
         let name = format!(in alloc; "t{n}")?;
-        let site = plan.site(name.as_str(), 1_000)?;
-        plan.resign(site)?;
+        plan.open_site(name.as_str())?;
     }
     for n in 0..16u32 {
         if n % 4 < 3 {
@@ -155,13 +153,11 @@ fn open_bank<R: Threads + Wait + Clock + Print + Eprint + Copy + Drop + Send + '
         total = total.saturating_add(account.value);
     }
     let mut served = 0u64;
-    for site in done.sites.iter() {
-        for call in site.calls() {
-            served = served.saturating_add(u64::from(call.ok));
-        }
+    for tasks in done.tasks.iter() {
+        served = served.saturating_add(*tasks);
     }
     let micros = took.as_micros();
-    eprintln!(rt; "{name}: {micros} us")?;
+    eprintln!(rt; "{name}: {micros} us, {} epochs", done.epochs)?;
     println!(rt;
         "{name}: taken {taken}, served {served}, total {total}, found open {}",
         done.found_open

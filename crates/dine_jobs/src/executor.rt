@@ -1,7 +1,6 @@
 //! Executors, which take tasks for the sites of a run while it goes on.
-ghost use Rattle.std.specs.Prelude.{◌≡◌, ◌∷◌, ◌++◌, ◌||◌, [], IfOk, OnOk, false, true, not, length, nat_lt};
-
 use crate::job::Job;
+use crate::queue::{Queue, SubmitError};
 use crate::table::Table;
 use crate::ticket::{Ticket, open_ticket};
 use crossbeam_channel::Sender;
@@ -9,8 +8,6 @@ use dine_graph::{MAX_SITES, Plan, SiteId};
 use dine_link::Doorbell;
 use dine_site_thread::JobFault;
 use std::alloc::{AllocError, Global};
-use std::collections::VecDeque;
-use std::mem;
 use std::sync::{Arc, Mutex, Wait};
 
 /// What a site is to do once, while it holds the forks of all its edges, over values of `T`. It moves into the thread
@@ -20,31 +17,6 @@ pub trait Task<T: Drop, O: Drop>: Drop + Send {
     fn run(self, table: &Table<'_, T>) -> O;
 }
 
-/// Why an executor did not take a task, which is handed back.
-#[derive(Drop)]
-pub enum SubmitError<K: Drop> {
-    /// The executor is closed.
-    Closed(K),
-    /// The plan gives the site no further job.
-    Full(K),
-    /// The plan has no such site.
-    NoSite(K),
-    /// An allocation failed.
-    Memory(K),
-}
-
-impl<K: Drop> SubmitError<K> {
-    /// Returns the task.
-    pub fn into_task(self) -> K {
-        match self {
-            SubmitError::Closed(task)
-            | SubmitError::Full(task)
-            | SubmitError::NoSite(task)
-            | SubmitError::Memory(task) => task,
-        }
-    }
-}
-
 // A task, and where what it returns is to go, if somebody asked for it.
 #[derive(Drop)]
 struct Submitted<K: Drop, O: Drop> {
@@ -52,79 +24,29 @@ struct Submitted<K: Drop, O: Drop> {
     reply: Option<Sender<O, Global>>,
 }
 
-// The tasks that a site has still to begin, how many more it may get, whether the executor is closed, and whether the
-// site thinks and has to be rung.
-#[derive(Drop)]
-struct Queue<K: Drop> {
-    tasks: VecDeque<K>,
-    left: u32,
-    closed: bool,
-    waits: bool,
-}
-
-impl<K: Drop> Queue<K> {
-    fn open(alloc: Global, jobs: u32) -> Queue<K> {
-        Queue {
-            tasks: VecDeque::new(alloc),
-            left: jobs,
-            closed: false,
-            waits: false,
-        }
-    }
-
-    // Takes the task, and returns whether the site has to be rung: the step `Submits` of a door in `dine_waking`.
-    fn put(&mut self, task: K) -> Result<bool, SubmitError<K>>
-        ensures was_open { OnOk result (self.old.closed ≡ false) }
-        ensures tasks { OnOk result (self.new.tasks.items ≡ self.old.tasks.items ++ task ∷ []) }
-        ensures closed { OnOk result (self.new.closed ≡ self.old.closed) }
-        ensures waits { OnOk result (self.new.waits ≡ false) }
-        ensures rings { IfOk result (λ rings. rings ≡ self.old.waits) }
-    {
-        if self.closed {
-            return Err(SubmitError::Closed(task));
-        }
-        if self.left == 0 {
-            return Err(SubmitError::Full(task));
-        }
-        match self.tasks.push_back(task) {
-            Ok(()) => {
-                self.left -= 1;
-                Ok(mem::replace(&mut self.waits, false))
-            }
-            Err(failed) => Err(SubmitError::Memory(failed.value)),
-        }
-    }
-
-    // Closes the queue, and returns whether the site has to be rung: the step `Closes`.
-    fn close(&mut self) -> bool
-        ensures tasks { self.new.tasks ≡ self.old.tasks }
-        ensures closed { self.new.closed ≡ true }
-        ensures waits { self.new.waits ≡ false }
-        ensures rings { result ≡ self.old.waits }
-    {
-        self.closed = true;
-        mem::replace(&mut self.waits, false)
-    }
-
-    // Whether the site is called: to a task, or to its end. If not, it is to be rung for the next of these. This is the
-    // step `Asks`.
-    fn calls(&mut self) -> bool
-        ensures called { result ≡ (self.old.closed || nat_lt 0 (length self.old.tasks.items)) }
-        ensures tasks { self.new.tasks ≡ self.old.tasks }
-        ensures closed { self.new.closed ≡ self.old.closed }
-        ensures waits { self.new.waits ≡ not result }
-    {
-        let calls = self.closed || !self.tasks.is_empty();
-        self.waits = !calls;
-        calls
-    }
-}
-
 // The queues of all sites, and their doorbells.
 #[derive(Drop)]
 struct Queues<K: Drop, O: Drop> {
     queues: Vec<Mutex<Queue<Submitted<K, O>>>>,
     doorbells: Vec<Doorbell>,
+}
+
+impl<K: Drop, O: Drop> Queues<K, O> {
+    fn ring<R: Wait>(&self, rt: &R, site: usize) {
+        if let Some(doorbell) = self.doorbells.get(site) {
+            doorbell.ring(rt);
+        }
+    }
+
+    // Ends the epoch: each site is called to its end.
+    fn end_epoch<R: Wait>(&self, rt: &R) {
+        for (site, queue) in self.queues.iter().enumerate() {
+            let rings = queue.lock(rt).end_epoch();
+            if rings {
+                self.ring(rt, site);
+            }
+        }
+    }
 }
 
 /// A queue of tasks for each site of a run. Any thread that has a share of it may submit tasks, before the run and
@@ -135,17 +57,32 @@ pub struct Executor<K: Drop, O: Drop> {
 }
 
 impl<K: Drop, O: Drop> Executor<K, O> {
-    /// Opens an executor for the sites of a plan, all of which have to resign. Each may get as many tasks as the plan
-    /// gives it jobs.
+    /// Opens an executor for the sites of a plan, all of which have to resign. Any number of tasks may wait for a site,
+    /// except for one to which the plan gives no job.
     ///
     /// # Errors
     ///
     /// `AllocError` if an allocation fails.
     pub fn open(alloc: Global, plan: &Plan) -> Result<Executor<K, O>, AllocError> {
+        Executor::bounded(alloc, plan, u32::MAX)
+    }
+
+    /// Opens an executor, as [`Executor::open`] does, in which at most `capacity` tasks wait for a site at a time. One
+    /// more is handed back as `Full`.
+    ///
+    /// # Errors
+    ///
+    /// `AllocError` if an allocation fails.
+    pub fn bounded(
+        alloc: Global,
+        plan: &Plan,
+        capacity: u32,
+    ) -> Result<Executor<K, O>, AllocError> {
         let mut queues = Vec::new(alloc);
         let mut doorbells = Vec::new(alloc);
         for site in 0..plan.sites() {
-            queues.push(Mutex::new(Queue::open(alloc, plan.jobs(site))))?;
+            let capacity = if plan.jobs(site) == 0 { 0 } else { capacity };
+            queues.push(Mutex::new(Queue::open(alloc, capacity)))?;
             doorbells.push(Doorbell::open(alloc)?)?;
         }
         let shared = Arc::new(alloc, Queues { queues, doorbells })?;
@@ -207,7 +144,7 @@ impl<K: Drop, O: Drop> Executor<K, O> {
         match put {
             Ok(rings) => {
                 if rings {
-                    self.ring(rt, site.0 as usize);
+                    self.shared.ring(rt, site.0 as usize);
                 }
                 Ok(())
             }
@@ -221,7 +158,7 @@ impl<K: Drop, O: Drop> Executor<K, O> {
         for (site, queue) in self.shared.queues.iter().enumerate() {
             let rings = queue.lock(rt).close();
             if rings {
-                self.ring(rt, site);
+                self.shared.ring(rt, site);
             }
         }
     }
@@ -239,7 +176,7 @@ impl<K: Drop, O: Drop> Executor<K, O> {
         for (site, queue) in (0..MAX_SITES).zip(self.shared.queues.iter()) {
             for _ in rt.forever() {
                 left.reserve(1)?;
-                let next = queue.lock(rt).tasks.pop_front();
+                let next = queue.lock(rt).take_back();
                 match next {
                     Some(Submitted { task, reply: _ }) => left.push_reserved((SiteId(site), task)),
                     None => break,
@@ -249,10 +186,14 @@ impl<K: Drop, O: Drop> Executor<K, O> {
         Ok(left)
     }
 
-    fn ring<R: Wait>(&self, rt: &R, site: usize) {
-        if let Some(doorbell) = self.shared.doorbells.get(site) {
-            doorbell.ring(rt);
+    // Begins an epoch. Returns whether the one before was ended while something was left to do: a task, or that the
+    // executor is open.
+    pub(crate) fn begin_epoch<R: Wait>(&self, rt: &R) -> bool {
+        let mut is_left = false;
+        for queue in self.shared.queues.iter() {
+            is_left |= queue.lock(rt).begin_epoch();
         }
+        is_left
     }
 
     // Returns the doorbells, by site.
@@ -273,6 +214,7 @@ impl<K: Drop, O: Drop> Executor<K, O> {
             workers.push(Worker {
                 shared,
                 site,
+                jobs: plan.jobs(site),
                 rt: *rt,
             })?;
         }
@@ -291,11 +233,14 @@ fn without_reply<K: Drop, O: Drop>(refused: SubmitError<Submitted<K, O>>) -> Sub
 }
 
 /// Does the tasks that an executor takes for a site, one in each meal. Once the executor is closed and no task is left,
-/// its next meal fails: a site that resigns quits then.
+/// or once the epoch is over, its next meal fails: a site that resigns quits then. With the last meal that the plan
+/// gives its site the epoch is over. In the first meal of an epoch it does a task in any case, if it has one, so each
+/// site with tasks gets on.
 #[derive(Drop)]
 pub struct Worker<K: Drop, O: Drop, R: Drop> {
     shared: Arc<Queues<K, O>, Global>,
     site: u32,
+    jobs: u32,
     rt: R,
 }
 
@@ -313,10 +258,13 @@ impl<T: Drop, O: Drop + Send, K: Task<T, O>, R: Wait + Drop + Send> Job<T> for W
         let Some(queue) = self.shared.queues.get(self.site as usize) else {
             return Err(JobFault);
         };
-        let next = queue.lock(&self.rt).tasks.pop_front();
+        let next = queue.lock(&self.rt).next(table.k() == 1);
         let Some(Submitted { task, reply }) = next else {
             return Err(JobFault);
         };
+        if table.k() >= self.jobs {
+            self.shared.end_epoch(&self.rt);
+        }
         let output = task.run(table);
         if let Some(reply) = reply {
             // Whoever asked for it may have dropped the ticket.

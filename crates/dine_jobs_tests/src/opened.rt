@@ -2,7 +2,7 @@
 use crate::asserts::{holds, same};
 use crate::plans::all_resigning;
 use dine_run::{
-    Executor, JobsDone, Place, Plan, SiteId, SubmitError, Table, Task, TicketError, Worker,
+    Executor, OpenDone, Place, Plan, SiteId, SubmitError, Table, Task, TicketError, order,
     run_open, run_open_with,
 };
 use std::alloc::Global;
@@ -45,7 +45,7 @@ fn ran_open<R: Threads + Wait + Abort + Copy + Drop + Send + 'static>(
     alloc: Global,
     plan: &Plan,
     executor: &Executor<AddOne, u64>,
-) -> JobsDone<u64, Worker<AddOne, u64, R>> {
+) -> OpenDone<u64> {
     let values = Vec::from_elem(alloc, 0u64, plan.edges() as usize).expect(&rt, "memory");
     match run_open(&rt, alloc, plan, values, executor) {
         Ok(done) => done,
@@ -53,19 +53,16 @@ fn ran_open<R: Threads + Wait + Abort + Copy + Drop + Send + 'static>(
     }
 }
 
-// The sum of the values, and how many calls went well and failed.
-fn counts<R: Wait + Drop + Send>(done: &JobsDone<u64, Worker<AddOne, u64, R>>) -> (u64, u64, u64) {
-    let (mut sum, mut well, mut failed) = (0u64, 0u64, 0u64);
+// The sum of the values, how many tasks all sites did, and in how many epochs.
+fn counts(done: &OpenDone<u64>) -> (u64, u64, u64) {
+    let (mut sum, mut tasks) = (0u64, 0u64);
     for value in done.values.iter() {
         sum = sum.saturating_add(value.value);
     }
-    for site in done.sites.iter() {
-        for call in site.calls() {
-            well = well.saturating_add(u64::from(call.ok));
-            failed = failed.saturating_add(u64::from(!call.ok));
-        }
+    for count in done.tasks.iter() {
+        tasks = tasks.saturating_add(*count);
     }
-    (sum, well, failed)
+    (sum, tasks, done.epochs)
 }
 
 fn opens<R: Threads + Wait + Abort + Clock + Copy + Drop + Send + 'static>(rt: R, alloc: Global) {
@@ -85,13 +82,13 @@ fn opens<R: Threads + Wait + Abort + Clock + Copy + Drop + Send + 'static>(rt: R
     if let Ok(clerk) = clerk {
         clerk.join(&rt);
     }
-    same(&rt, &counts(&done), &(24, 24, 6));
+    same(&rt, &counts(&done), &(24, 24, 1));
     same(&rt, &done.found_open, &0);
 }
 
 fn closes<R: Threads + Wait + Abort + Copy + Drop + Send + 'static>(rt: R, alloc: Global) {
     let plan = all_resigning(&rt, alloc, SITES, 2);
-    let executor = Executor::open(alloc, &plan).expect(&rt, "memory");
+    let executor = Executor::bounded(alloc, &plan, 2).expect(&rt, "memory");
     executes_each(&rt, &executor);
     let stranger = executor.execute(&rt, SiteId(SITES), AddOne {});
     holds(&rt, matches!(stranger, Err(SubmitError::NoSite(_))));
@@ -103,7 +100,7 @@ fn closes<R: Threads + Wait + Abort + Copy + Drop + Send + 'static>(rt: R, alloc
     let late = executor.execute(&rt, SiteId(1), AddOne {});
     holds(&rt, matches!(late, Err(SubmitError::Closed(_))));
     let done = ran_open(rt, alloc, &plan, &executor);
-    same(&rt, &counts(&done), &(7, 7, 5));
+    same(&rt, &counts(&done), &(7, 7, 1));
 }
 
 // A site does its tasks in the order in which they were submitted: each ticket has one more. A ticket of a task that
@@ -124,7 +121,7 @@ fn answers<R: Threads + Wait + Abort + Clock + Copy + Drop + Send + 'static>(rt:
         got
     });
     let values = Vec::from_elem(alloc, 0u64, plan.edges() as usize).expect(&rt, "memory");
-    let done = run_open_with(&rt, alloc, &plan, values, &executor, 1);
+    let done = run_open_with(&rt, alloc, &plan, values, &executor, 1, |_| {});
     holds(&rt, done.is_ok());
     if let Ok(clerk) = clerk {
         same(&rt, &clerk.join(&rt), &[1, 2, 3, 4]);
@@ -146,7 +143,78 @@ fn stops<R: Threads + Wait + Abort + Clock + Copy + Drop + Send + 'static>(rt: R
     let gone = ticket.wait(&rt);
     holds(&rt, matches!(gone, Err(TicketError::Gone)));
     let done = ran_open(rt, alloc, &plan, &executor);
-    same(&rt, &counts(&done), &(0, 0, 2));
+    same(&rt, &counts(&done), &(0, 0, 1));
+}
+
+// Site 0 has ten tasks, of which an epoch does two, and each other site has one. Each epoch is a run of its own: its
+// journals have one order, and its calls that went well are its tasks.
+fn goes_in_epochs<R: Threads + Wait + Abort + Copy + Drop + Send + 'static>(rt: R, alloc: Global) {
+    let plan = all_resigning(&rt, alloc, SITES, 2);
+    let executor = Executor::open(alloc, &plan).expect(&rt, "memory");
+    executes_each(&rt, &executor);
+    for _ in 0..9 {
+        let taken = executor.execute(&rt, SiteId(0), AddOne {});
+        holds(&rt, taken.is_ok());
+    }
+    executor.close(&rt);
+    let values = Vec::from_elem(alloc, 0u64, plan.edges() as usize).expect(&rt, "memory");
+    let (mut ordered, mut well) = (0u32, 0u64);
+    let done = run_open_with(&rt, alloc, &plan, values, &executor, 64, |epoch| {
+        if order(alloc, &plan, epoch.sites.as_slice()).is_ok() {
+            ordered = ordered.saturating_add(1);
+        }
+        for site in epoch.sites.iter() {
+            for call in site.calls() {
+                well = well.saturating_add(u64::from(call.ok));
+            }
+        }
+    });
+    let Ok(done) = done else {
+        panic!(&rt; "the run failed");
+    };
+    same(&rt, &counts(&done), &(15, 15, 5));
+    same(&rt, &done.tasks.as_slice(), &[10, 1, 1, 1, 1, 1].as_slice());
+    same(&rt, &(ordered, well), &(5, 15));
+}
+
+// Tasks of a site are done in the order of their submission, also over many epochs and while the run goes on.
+fn answers_over_epochs<R: Threads + Wait + Abort + Copy + Drop + Send + 'static>(
+    rt: R,
+    alloc: Global,
+) {
+    let plan = all_resigning(&rt, alloc, 3, 1);
+    let executor = Executor::open(alloc, &plan).expect(&rt, "memory");
+    let theirs = executor.share().expect(&rt, "memory");
+    let clerk = thread::spawn(&rt, move || {
+        let mut inorder = 0u64;
+        for n in 1..=20u64 {
+            if let Ok(ticket) = theirs.submit(&rt, alloc, SiteId(0), AddOne {}) {
+                inorder = inorder.saturating_add(u64::from(ticket.wait(&rt) == Ok(n)));
+            }
+        }
+        theirs.close(&rt);
+        inorder
+    });
+    let done = ran_open(rt, alloc, &plan, &executor);
+    same(&rt, &counts(&done), &(20, 20, 20));
+    if let Ok(clerk) = clerk {
+        same(&rt, &clerk.join(&rt), &20);
+    }
+}
+
+// A site to which the plan gives no job takes no task, and a run of such sites ends at once.
+fn takes_none_without_jobs<R: Threads + Wait + Abort + Copy + Drop + Send + 'static>(
+    rt: R,
+    alloc: Global,
+) {
+    let plan = all_resigning(&rt, alloc, 2, 0);
+    let executor = Executor::open(alloc, &plan).expect(&rt, "memory");
+    let taken = executor.execute(&rt, SiteId(0), AddOne {});
+    holds(&rt, matches!(taken, Err(SubmitError::Full(_))));
+    let done = ran_open(rt, alloc, &plan, &executor);
+    same(&rt, &counts(&done), &(0, 0, 1));
+    let late = executor.execute(&rt, SiteId(1), AddOne {});
+    holds(&rt, matches!(late, Err(SubmitError::Closed(_))));
 }
 
 #[test]
@@ -170,5 +238,23 @@ fn tickets_have_what_tasks_return_in_order(rt: HostRuntime) -> Result<(), Fail> 
 #[test]
 fn a_stopped_executor_hands_back_what_has_not_begun(rt: HostRuntime) -> Result<(), Fail> {
     stops(rt, rt.alloc());
+    Ok(())
+}
+
+#[test]
+fn open_runs_go_in_epochs(rt: HostRuntime) -> Result<(), Fail> {
+    goes_in_epochs(rt, rt.alloc());
+    Ok(())
+}
+
+#[test]
+fn tasks_are_done_in_order_over_epochs(rt: HostRuntime) -> Result<(), Fail> {
+    answers_over_epochs(rt, rt.alloc());
+    Ok(())
+}
+
+#[test]
+fn sites_without_jobs_take_no_tasks(rt: HostRuntime) -> Result<(), Fail> {
+    takes_none_without_jobs(rt, rt.alloc());
     Ok(())
 }

@@ -7,7 +7,7 @@ use Rattle.dine_rules.specs.declared.events.EventKind.TheVariants as event
 use Rattle.dine_rules.specs.World.{IsComplete, Reaches, WorldState, state_of}
 use Rattle.dine_site.specs.NextEvent.{next_event}
 use Rattle.dine_site.specs.Standing.{has_finished}
-use Rattle.dine_waking.specs.Doors.{AllRestAtDoors, Busy, Door, DoorStep, IsReachedDoor, LeadsByDoorSteps, RestsAtDoor, Sleeps, Thinker, Thinks, first_door, is_called, owed_after, woken, Submits, Closes, Rings, Begins, Asks, Hears, GoesOn, FallsAsleep}
+use Rattle.dine_waking.specs.Doors.{AllRestAtDoors, Busy, Door, DoorStep, IsReachedDoor, LeadsByDoorSteps, RestsAtDoor, Sleeps, Thinker, Thinks, first_door, is_called, is_ended, owed_after, woken, Submits, Closes, Ends, Rings, Begins, Asks, Hears, GoesOn, FallsAsleep}
 use Rattle.dine_waking.specs.Sleeping.{SleepsWell}
 use Rattle.dine_waking.proofs.Asleep.{all_asleep_is_complete}
 
@@ -65,6 +65,10 @@ sound_step old new (Closes is) sound = subst IsSound (sym is) (record {
   off = λ h. inr (called old.waits old refl sound h);
   silent = sound.silent;
 })
+sound_step old new (Ends is) sound = subst IsSound (sym is) (record {
+  off = λ h. inr (called old.waits old refl sound h);
+  silent = sound.silent;
+})
 sound_step old new (Rings rest owed is) sound = subst IsSound (sym is) (record {
   off = λ h. inr (omega arith);
   silent = λ h. absurd (true≢false (sym h ∙ not_asleep_woken old.thinker));
@@ -93,7 +97,7 @@ rung_for door reached sleeps is_called =
 -- ---- all doors are closed
 
 pub closed_doors_end : (plan : SeenPlan) (events : List Event) (world : WorldState) (doors : ℕ → Door) → IsPlan plan → Reaches plan events world → AllRestAtDoors plan world doors
-    → ((s : ℕ) → s < site_count plan → IsReachedDoor (doors s)) → ((s : ℕ) → s < site_count plan → (doors s).closed ≡ true) → ((s : ℕ) → s < site_count plan → (doors s).owed ≡ 0)
+    → ((s : ℕ) → s < site_count plan → IsReachedDoor (doors s)) → ((s : ℕ) → s < site_count plan → is_ended (doors s) ≡ true) → ((s : ℕ) → s < site_count plan → (doors s).owed ≡ 0)
     → IsComplete plan world
 closed_doors_end plan events world doors is_plan reached all reached_doors closed owes = all_asleep_is_complete plan events world is_plan reached asleep
   where
@@ -101,7 +105,7 @@ closed_doors_end plan events world doors is_plan reached all reached_doors close
     sleeps_well s is_site at_door = elim at_door.rests.idle [
       | inl none ↦ record { idle = none; coming = at_door.rests.coming; last = at_door.rests.last; places = at_door.rests.places; in_links = at_door.rests.in_links; unwanted = at_door.rests.unwanted }
       | inr hungry ↦
-          let called : is_called (doors s) ≡ true = or_left (doors s).closed (nat_lt 0 (doors s).tasks) (closed s is_site) in
+          let called : is_called (doors s) ≡ true = or_left (is_ended (doors s)) (nat_lt 0 (doors s).tasks) (closed s is_site) in
           absurd (omega (arith, owes s is_site, rung_for (doors s) (reached_doors s is_site) (at_door.sleeps hungry) called))
     ]
 

@@ -17,11 +17,13 @@ pub data Thinker : Type 0 where
   Thinks : Thinker
   Sleeps : Thinker
 
--- A door: how many tasks wait for the site, whether no more come, whether the site asked and found none, how many rings
--- those outside have yet to ring, how many of their rings the site has not heard, and what its thread is at.
+-- A door: how many tasks wait for the site, whether no more come, whether the epoch is over, whether the site asked and
+-- found none, how many rings those outside have yet to ring, how many of their rings the site has not heard, and what
+-- its thread is at.
 pub record Door : Type 0 where
   pub tasks : ℕ
   pub closed : Bool
+  pub over : Bool
   pub waits : Bool
   pub owed : ℕ
   pub rings : ℕ
@@ -29,11 +31,15 @@ pub record Door : Type 0 where
 
 -- the door before anything happened
 abbrev pub first_door : Door
-first_door = record { tasks = 0; closed = false; waits = false; owed = 0; rings = 0; thinker = Busy }
+first_door = record { tasks = 0; closed = false; over = false; waits = false; owed = 0; rings = 0; thinker = Busy }
+
+-- the site is called to its end
+abbrev pub is_ended : Door → Bool
+is_ended door = door.closed || door.over
 
 -- the site is called: to a task, or to its end
 abbrev pub is_called : Door → Bool
-is_called door = door.closed || nat_lt 0 door.tasks
+is_called door = is_ended door || nat_lt 0 door.tasks
 
 -- the rings that are owed once the site is called: one more if it waits
 abbrev pub owed_after : Door → ℕ
@@ -47,6 +53,7 @@ woken thinker = thinker
 -- One step at the door.
 -- - Submits: somebody brings a task. If the site waits, they have to ring.
 -- - Closes: somebody closes the door. If the site waits, they have to ring.
+-- - Ends: the epoch is over, for a site has done all that it may do in it. If this site waits, that one has to ring.
 -- - Rings: somebody who has to ring rings, which wakes the site.
 -- - Begins: the site takes a task.
 -- - Asks: the site asks whether it is called. If it is not, it waits.
@@ -56,6 +63,7 @@ woken thinker = thinker
 pub data DoorStep (old new : Door) : Type 0 where
   Submits : old.closed ≡ false → new ≡ record old { tasks = old.tasks + 1; waits = false; owed = owed_after old } → DoorStep old new
   Closes : new ≡ record old { closed = true; waits = false; owed = owed_after old } → DoorStep old new
+  Ends : new ≡ record old { over = true; waits = false; owed = owed_after old } → DoorStep old new
   Rings : (rest : ℕ) → old.owed ≡ suc rest → new ≡ record old { owed = rest; rings = old.rings + 1; thinker = woken old.thinker } → DoorStep old new
   Begins : (rest : ℕ) → old.thinker ≡ Busy → old.tasks ≡ suc rest → new ≡ record old { tasks = rest } → DoorStep old new
   Asks : old.thinker ≡ Busy → new ≡ (if is_called old then record old { waits = false } else record old { waits = true; thinker = Thinks }) → DoorStep old new

@@ -5,7 +5,7 @@ ghost use Rattle.dine_graph.specs.Plan.{IsPlan, SeenPlan, site_count};
 ghost use Rattle.dine_rules.specs.Local.{is_thinking};
 ghost use Rattle.dine_rules.specs.World.{IsComplete, Reaches, WorldState, state_of};
 ghost use Rattle.dine_rules.specs.declared.events.Event.{Event};
-ghost use Rattle.dine_waking.specs.Doors.{AllRestAtDoors, Door, IsReachedDoor, Sleeps, is_called};
+ghost use Rattle.dine_waking.specs.Doors.{AllRestAtDoors, Door, IsReachedDoor, Sleeps, is_called, is_ended};
 ghost use Rattle.dine_waking.specs.Resting.{AllRestWell};
 
 /// Nobody waits for a site that thinks. Take a world that events reach from the start. If each of its sites has
@@ -23,13 +23,13 @@ pub fn called_sites_are_rung_for()
         → 0 < door.owed }
 {}
 
-/// If all doors are closed at last, nobody sleeps for ever. Take a world that events reach from the start, in which
-/// each site has finished or rests at its door. If each door is closed, and nobody outside has yet to ring, the world
-/// is complete.
+/// If all doors are closed at last, or the epoch is over at all of them, nobody sleeps for ever. Take a world that
+/// events reach from the start, in which each site has finished or rests at its door. If each site is called to its end
+/// there, and nobody outside has yet to ring, the world is complete.
 pub fn closed_doors_end_the_run()
     ensures complete { (plan : SeenPlan) (events : List Event) (world : WorldState) (doors : ℕ → Door) → IsPlan plan
         → Reaches plan events world → AllRestAtDoors plan world doors
         → ((s : ℕ) → s < site_count plan → IsReachedDoor (doors s))
-        → ((s : ℕ) → s < site_count plan → (doors s).closed ≡ true)
+        → ((s : ℕ) → s < site_count plan → is_ended (doors s) ≡ true)
         → ((s : ℕ) → s < site_count plan → (doors s).owed ≡ 0) → IsComplete plan world }
 {}
