@@ -84,8 +84,8 @@ where
 ///
 /// # Errors
 ///
-/// Those of [`crate::run_jobs_with`], in the first epoch that fails. The executor is closed then, too, and has the tasks
-/// that no site has begun.
+/// Those of [`crate::run_jobs_with`], in the first epoch that fails. The executor is closed then, too, and has the
+/// tasks that no site has begun.
 pub fn run_open_with<T, K, O, R, F>(
     rt: &R,
     alloc: Global,

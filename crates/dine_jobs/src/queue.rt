@@ -1,6 +1,6 @@
 //! The queue of a site: the tasks that it has still to begin.
-ghost use Rattle.std.specs.Prelude.{◌≡◌, ◌∷◌, ◌++◌, ◌&&◌, ◌||◌, ◌⊎◌, ◌≤◌, [], IfErr, IfNone, IfOk, IfSome, OnOk, false, true};
-ghost use Rattle.std.specs.Prelude.{IsNone, length, nat_lt, not};
+ghost use Rattle.std.specs.Prelude.{◌≡◌, ◌∷◌, ◌++◌, ◌&&◌, ◌||◌, ◌⊎◌, [], IfErr, IfNone, IfOk, IfSome, OnOk};
+ghost use Rattle.std.specs.Prelude.{IsNone, false, length, nat_lt, not, true};
 ghost use Rattle.dine_jobs.specs.Queues.{MayRefuse, task_in};
 
 use std::alloc::Global;
