@@ -1,9 +1,10 @@
 //! Runs that are open: tasks arrive at their sites while they go on. They go in epochs, each of which is a run of the
 //! plan, so they have no end that the plan gives.
 ghost use Rattle.std.specs.Prelude.{◌≡◌, ◌≤◌, ℕ, IfOk, vec_capacity, vec_len};
-ghost use Rattle.dine_graph.specs.Plan.{edge_count};
 ghost use Rattle.dine_jobs.specs.Epochs.{HasEpochs};
 ghost use Rattle.dine_jobs.specs.JobRuns.{IsDoneRun};
+ghost use Rattle.dine_jobs.specs.declared.executor.Worker.{Worker as Workers};
+ghost use Rattle.dine_site_thread.specs.declared.diner.JobFault.{JobFault as TaskFault};
 
 use crate::done::{JobsCause, JobsDone, JobsFault, SiteDone};
 use crate::edge_value::EdgeValue;
@@ -68,7 +69,9 @@ where
     O: Drop + Send + 'static,
     K: Task<T, O> + 'static,
     R: Threads + Wait + Copy + Drop + Send + 'static,
-    ensures ok { IfOk result (λ done. vec_len done.values ≡ edge_count plan.now) }
+    ensures ok { IfOk result (λ done. (n : ℕ)
+        × HasEpochs {J = Workers K O R} {F = TaskFault} (λ each left called next. Unit {0}) (Manner.OnCall 64)
+        plan.now n (tt {0}) values done.values) }
 {
     run_open_with(rt, alloc, plan, values, executor, DEFAULT_PATIENCE, |_| {})
 }

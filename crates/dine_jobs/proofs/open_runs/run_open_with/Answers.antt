@@ -1,16 +1,15 @@
-use Rattle.std.proofs.Common.{ap, subst}
-use Rattle.std.proofs.lemmas.Result.{IfOk-weaker}
-use Rattle.dine_site_thread.specs.declared.manner.Manner.{Manner}
-use Rattle.dine_threads.specs.declared.options.RunOptions.{RunOptions}
-use Rattle.dine_jobs.specs.JobRuns.{IsDoneRun}
+-- The last epoch is the one of the values as they are then.
+use Rattle.std.proofs.Common.{ℕ, suc, zero, refl, of_calls}
 use Rattle.dine_jobs.proofs.open_runs.run_open_with.Goals as goal
 
--- the workers that were made are those that the run says it of
-pub returns : goal.returns
-returns g c =
-    let manner = ap (λ (options : RunOptions). options.manner) c.on_call-options.ensures in
-    record {
-      ok = IfOk-weaker c.run_jobs_at-done.result _ _
-          (λ done is. (c.in-Ok.workers, subst (λ (m : Manner). IsDoneRun (λ old k ok new. Unit {0}) m c.args.plan.now c.args.values c.in-Ok.workers done) manner is))
-          c.run_jobs_at-done.ensures.ok;
-    }
+pub loop-init : goal.loop-init
+loop-init g c = (c.requires, λ n back has. (n, has))
+
+pub each-requires : goal.each-requires
+each-requires g c = search of_calls
+
+pub returns-then-not-begin_epoch : goal.returns-then-not-begin_epoch
+returns-then-not-begin_epoch g c = record { ok = c.loop.invariant.1 zero _ (c.each.new.self, ?) }
+
+pub loop-preserved : goal.loop-preserved
+loop-preserved g c = (search of_calls, λ n back rest. c.loop.invariant.1 (suc n) back (?, c.each.new.self, ?, ?, ?, rest))

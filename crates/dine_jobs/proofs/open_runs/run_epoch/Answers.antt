@@ -1,0 +1,13 @@
+-- The workers that were made are those that the run says it of.
+use Rattle.std.proofs.Common.{ap, subst}
+use Rattle.dine_site_thread.specs.declared.manner.Manner.{Manner}
+use Rattle.dine_threads.specs.declared.options.RunOptions.{RunOptions}
+use Rattle.dine_jobs.specs.JobRuns.{IsDoneRun}
+use Rattle.dine_jobs.proofs.open_runs.run_epoch.Goals as goal
+
+pub returns-in-Ok-clause-ran : goal.returns-in-Ok-clause-ran
+returns-in-Ok-clause-ran g c =
+    let manner = ap (λ (options : RunOptions). options.manner) c.on_call-options.ensures in (
+      c.in-Ok-Ok.workers,
+      subst (λ (m : Manner). IsDoneRun (λ old k ok new. Unit {0}) m c.args.plan.now c.args.values c.in-Ok-Ok.workers c.in-Ok.done) manner c.in-Ok.ensures.ok,
+    )
