@@ -25,5 +25,4 @@ module _ {S T J F : Type 0} (took : S → EpochDone J F → Unit {0} → S → T
       → HasEpochs {S = Unit {0}} {J = J} {F = F} (λ each left called next. Unit {0}) manner plan n (tt {0}) values back
   forgotten zero each values back has = (tt, forgotten_epoch each values back has.0 has.1)
   forgotten (suc n) each values back has =
-      let rest = has.2.2 in
-      (has.0, tt, forgotten_epoch each values has.0 has.1 rest.0, rest.1, rest.2.0, forgotten n has.1 rest.1 back rest.2.1)
+      (has.0, tt, forgotten_epoch each values has.0 has.1 has.2, has.3, has.4, forgotten n has.1 has.3 back has.5)

@@ -1,5 +1,6 @@
 pub mod Calls
 pub mod Causes
+pub mod Forgotten
 pub mod Lists
 pub mod Sites
 pub mod Tables
