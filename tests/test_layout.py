@@ -73,6 +73,12 @@ def test_small_windows_show_all(kept):
     assert kept.unseen("#code-lines") == []
     # What the legend of the chart says is there whole.
     assert kept.each("#timeline-note", "it.scrollWidth - it.clientWidth") == [0]
+    # Where its list is cut, the line that is lit comes into view.
+    kept.js("(one('#code-lines').style.maxHeight = '4rem', null)")
+    kept.wait("drawn")
+    scrolled = [(kept.do("4"), kept.js("one('#code-lines').scrollTop"))[1] for _ in range(2)]
+    kept.js("(one('#code-lines').style.maxHeight = '', null)")
+    assert scrolled[0] < 20 < 60 < scrolled[1]
 
 
 def test_names_of_small_sites_are_upright(kept):
@@ -101,7 +107,7 @@ def test_token_on_its_way(kept, width, address):
     assert 0.6 < far[0] / far[1] < 1.67 and far[2] > 8
 
 
-# The modes of the page, each with its address and with what is done there. Done once more, the first of that ends the mode.
+# The modes of the page, each with its address and with what is done there: done again, the first of that ends the mode.
 HUNGRY = f"{RING}&choices={ASKED}"
 GRID = f"text={urllib.parse.quote(plan_of([1] * 64, graph_of('grid:8x8')[1]).decode())}"
 MODES = {

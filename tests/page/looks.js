@@ -32,8 +32,8 @@ const drawn = (then) => rest(() => requestAnimationFrame(() => setTimeout(then))
 // Calls back once the page is at rest, with how many events are done.
 const done = (then) => rest(() => then(count("#count") ? event() : null));
 
-// Does an event for each of these chances from 0 to 1, by one of the buttons for events, until none is enabled. Calls back
-// with how many events are done then, and with the checks that failed behind one of them.
+// Does an event for each of these chances from 0 to 1, by one of the buttons for events, until none is enabled. Calls
+// back with how many events are done then, and with the checks that failed behind one of them.
 async function stepped(then, chances) {
   const broken = [];
   for (const it of chances) {
@@ -53,9 +53,10 @@ const landed = (then, where) => rest(async () => {
   then(one(where));
 });
 
-// Shows another address, as the way back of the browser does, from its head on, and calls back once that is drawn: in its
-// first frame the picture takes the size of its place.
+// Shows another address, as the way back of the browser does, with focus and scroll as in a page that was just loaded.
+// Calls back once it is drawn: in its first frame the picture takes the size of its place.
 function went(then, said) {
+  document.activeElement.blur();
   scrollTo(0, 0);
   history.replaceState(null, "", `${location.href.replace(/#.*/s, "")}${said && "#"}${said}`);
   dispatchEvent(new HashChangeEvent("hashchange"));
@@ -71,8 +72,6 @@ function reset(then) {
   one("#pick").value = "random";
   one("#speed").dispatchEvent(new Event("input"));
   delete document.documentElement.dataset.theme;
-  document.activeElement.blur();
-  scrollTo(0, 0);
   localStorage.clear();
   rest(then);
 }
@@ -214,7 +213,7 @@ function overlaps() {
   return [...beyond, ...coveringParts()];
 }
 
-// What is wrong with how a window of this width is filled: how far it scrolls sideways, and what should not be where it is.
+// What is wrong in a window of this width: how far it scrolls sideways, and what should not be where it is.
 const faultsOfLayout = (width) => [
   Math.max(0, document.documentElement.scrollWidth - width), cutOff(), coveredTexts(), overlaps(),
 ];
