@@ -222,9 +222,13 @@ class Page:
         return self.wait("stepped", [chance.random() for _ in range(count)])
 
     def write_plan(self, plan):
-        """Puts in a plan of one's own and asks for it."""
+        """Puts in a plan of one's own and asks for it. Only a short one is typed: of a long one Chromium lays out line
+        by line as it comes, for many seconds."""
         self.do("#own", "#text", "^a")
-        self.cdp("Input.insertText", text=plan)
+        if len(plan) < 2000:
+            self.cdp("Input.insertText", text=plan)
+        else:
+            self.js("(one('#text').value = arguments[0], null)", plan)
         self.do("#use")
 
     def is_said_by_shell(self):
