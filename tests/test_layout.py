@@ -10,6 +10,9 @@ from lib.graphs import graph_of, plan_of
 
 STAR, STORY = "plans/star_of_locks.toml", "lessons/dining_without_a_waiter.toml"
 HEIGHT = "one('#picture').clientHeight"
+# How far the first line that is lit is below the head of its list, and how far that is scrolled.
+LIT = """["#code-lines .lit", "#code-lines"].map((it) => one(it).getBoundingClientRect().top)
+  .reduce((line, list) => [line - list, one("#code-lines").scrollTop])"""
 # What has to have a name for who does not see the page, besides all that can have the focus.
 NAMED = ("table", "progressbar", "ProgressIndicator", "img", "image", "slider", "region")
 
@@ -76,9 +79,9 @@ def test_small_windows_show_all(kept):
     # Where its list is cut, the line that is lit comes into view.
     kept.js("(one('#code-lines').style.maxHeight = '4rem', null)")
     kept.wait("drawn")
-    scrolled = [(kept.do("4"), kept.js("one('#code-lines').scrollTop"))[1] for _ in range(2)]
+    places = [(kept.do("f"), kept.js(LIT))[1] for _ in range(4)]
     kept.js("(one('#code-lines').style.maxHeight = '', null)")
-    assert scrolled[0] < 20 < 60 < scrolled[1]
+    assert all(0 <= line <= 48 for line, _ in places) and max(scrolled for _, scrolled in places) > 60
 
 
 def test_names_of_small_sites_are_upright(kept):
