@@ -1,8 +1,8 @@
 """The page in a headless Chromium, by selenium: what a person does there and reads there.
 
 On Debian all of it comes by `apt-get install chromium chromium-driver python3-selenium`. Each process of pytest -n has
-a Chromium of its own. Each test opens the page anew, in a browser that has stored nothing, and fails if the page notes
-a warning or an error on its console."""
+a Chromium of its own. Each test has the page anew, or as the tests before it have left it, in a browser that has stored
+nothing, and fails if the page notes a warning or an error on its console."""
 import contextlib
 import json
 import re
@@ -152,9 +152,9 @@ class Page:
         """Returns the value of JavaScript in the page, with the functions of tests/page/looks.js."""
         return self.driver.execute_script(f"{LOOKS}return {code}", *given)
 
-    def until(self, code, seconds=SECONDS):
+    def until(self, code):
         """Waits until JavaScript in the page is true."""
-        WebDriverWait(self.driver, seconds, 0.01).until(lambda _: self.js(code), code)
+        WebDriverWait(self.driver, SECONDS, 0.02).until(lambda _: self.js(code), code)
 
     def wait(self, how="rest", *given):
         """Waits until the page is at rest, or also `drawn`, and returns what was seen of a `flight`."""
@@ -185,7 +185,7 @@ class Page:
     def hash(self, pattern):
         """Waits until the address is written and has this in it, and returns it."""
         time.sleep(0.5)
-        self.until(f"/{pattern}/.test(decodeURIComponent(location.hash))", 5)
+        self.until(f"/{pattern}/.test(decodeURIComponent(location.hash))")
         return self.js("location.hash")[1:]
 
     def chain(self):

@@ -158,7 +158,7 @@ def test_browser_that_lacks_something(page, gone, said):
     script = page.cdp("Page.addScriptToEvaluateOnNewDocument", source=source)["identifier"]
     page.driver.get("about:blank")
     page.driver.get(page.address)
-    page.until("one('#fault').textContent !== ''", 20)
+    page.until("one('#fault').textContent !== ''")
     page.cdp("Page.removeScriptToEvaluateOnNewDocument", identifier=script)
     assert page.text("#fault").startswith(said) and page.unseen("#fault") == []
 
@@ -169,7 +169,7 @@ def test_page_without_scripts(page):
     page.driver.get("about:blank")
     page.driver.get(page.address)
     page.cdp("Emulation.setScriptExecutionDisabled", value=False)
-    time.sleep(3.5)
+    page.until("getComputedStyle(one('#needs')).visibility === 'visible'")
     assert "needs JavaScript" in page.text("noscript")
     assert page.unseen("#needs") == [] and "too old" in page.text("#needs")
 
@@ -183,9 +183,9 @@ def test_way_back(page):
     page.do("#step", "#step")
     time.sleep(0.5)
     page.driver.back()
-    page.until("text('#moment-count') === 'Moment 5 of 22'", 10)
+    page.until("text('#moment-count') === 'Moment 5 of 22'")
     page.driver.forward()
-    page.until("text('#moment-count').endsWith('oment 6 of 22')", 10)
+    page.until("text('#moment-count').endsWith('oment 6 of 22')")
 
 
 def test_many_sites(kept):

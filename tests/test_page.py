@@ -144,7 +144,7 @@ def test_plan_that_is_too_long(page):
     """A plan that is too long for an address leaves it empty, as is said."""
     page.open(RING)
     page.write_plan(LONG + "# " + "".join(map(chr, random.Random(0).choices(range(0x4E00, 0x9FFF), k=26_000))))
-    page.until("location.hash === '' && !one('#too-long').hidden", 10)
+    page.until("location.hash === '' && !one('#too-long').hidden")
 
 
 @pytest.mark.parametrize("which", ["served", "page"])
@@ -176,12 +176,12 @@ def test_late_run(served):
     served.do("ArrowRight", "t")
     assert served.event() == 1
     served.js("answer('4,4,4,4,4')")
-    served.until("one('#timeline-name').textContent === 'What the threads did'", 5)
+    served.until("one('#timeline-name').textContent === 'What the threads did'")
     served.do("End")
     assert served.choices() == [4] * 5 and served.unseen("#building")
     served.do("#threads")
     served.js("answer('it is refused', { status: 500 })")
-    served.until("one('#fault').textContent === 'it is refused'", 5)
+    served.until("one('#fault').textContent === 'it is refused'")
     assert served.unseen("#building")
 
 
@@ -238,7 +238,7 @@ def test_long_run(served):
     served.open(RING)
     served.write_plan(plan_of([500] * 5, graph_of("ring:5")[1]).decode())
     served.one("#threads").click()
-    served.until("one('#play').textContent === 'Pause'", 60)
+    served.until("one('#play').textContent === 'Pause'")
     count = served.do(" ", "End")
     assert count >= 7000 and not served.text("#last b").startswith(("After", "The start"))
     assert 0.4 * count < on_timeline(served, 0.5) < 0.6 * count
