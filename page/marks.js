@@ -194,13 +194,19 @@ export function drawLegend(list, had, explain) {
   const key = entries.map(([words]) => words).join();
   if (list.dataset.key === key) return;
   list.dataset.key = key;
+  list.made ??= new Map();
   list.replaceChildren(...entries.map(([words, draw]) => {
-    const item = document.createElement("li");
-    if (draw) draw(element("svg", { viewBox: "-11 -11 22 22", "aria-hidden": "true" }, item));
-    const button = textElement("button", words, "explained");
-    button.type = "button";
-    button.addEventListener("click", () => explain(words));
-    item.append(button);
-    return item;
+    if (!list.made.has(words)) list.made.set(words, legendItem(words, draw, explain));
+    return list.made.get(words);
   }));
+}
+
+function legendItem(words, draw, explain) {
+  const item = document.createElement("li");
+  if (draw) draw(element("svg", { viewBox: "-11 -11 22 22", "aria-hidden": "true" }, item));
+  const button = textElement("button", words, "explained");
+  button.type = "button";
+  button.addEventListener("click", () => explain(words));
+  item.append(button);
+  return item;
 }

@@ -22,6 +22,8 @@ const MANY = { sites: 16, edges: 40 };
 const WHOLE = { choices: 4000, log: 1200 };
 // The kinds of marks that a picture may show.
 const MARKS = ["forks", "tokens", "arrows", "counts"];
+// Writes a number with commas. One is made for all numbers, since that takes half a millisecond.
+const NUMBERS = new Intl.NumberFormat("en");
 // How long the page waits before it writes its address, in milliseconds.
 const QUIET = 150;
 
@@ -65,7 +67,8 @@ function showLegend({ schedule, naive, isPlain }) {
 
 function showTitle({ schedule: { path }, lesson }) {
   const name = lesson?.title ?? (path ? nameOf(path) : "A plan of your own");
-  document.title = `${name} · Dining philosophers`;
+  const title = `${name} · Dining philosophers`;
+  if (document.title !== title) document.title = title;
 }
 
 // What a picture has of what its legend may have.
@@ -266,9 +269,9 @@ function timelineNote() {
   const end = endOfTimeline();
   if (end === 0 && !other) return "bar: a meal; ochre line: a wait; arrow: a fork on its way";
   const left = other ? "; grey: the events that you left, and a tap has them back" : "";
-  const count = `${end.toLocaleString("en")} ${end === 1 ? "event" : "events"}${left}`;
+  const count = `${NUMBERS.format(end)} ${end === 1 ? "event" : "events"}${left}`;
   if (at === 0) return isOfThreads ? `${count}, in one order that fits` : count;
-  return `${at.toLocaleString("en")} of ${count}: ${state.last?.words ?? ""}`;
+  return `${NUMBERS.format(at)} of ${count}: ${state.last?.words ?? ""}`;
 }
 
 function showNaive({ schedule, naive, isPlain }) {

@@ -64,15 +64,14 @@ export class Why {
   // `parts` has the heading, the box, the button that closes it, and what is done at a choice.
   constructor(parts) {
     Object.assign(this, parts);
-    this.key = null;
+    this.shown = [];
   }
 
   // Shows of the sites what they wait for, or all of the site that is selected.
   show(state, selected, sites) {
-    const { events, done, bound } = state;
-    const key = JSON.stringify([selected, sites.length, state.sites, state.edges, events, done, bound]);
-    if (this.key === key) return;
-    this.key = key;
+    const shown = [state, selected, sites.length];
+    if (shown.every((it, turn) => it === this.shown[turn])) return;
+    this.shown = shown;
     this.close.hidden = selected === null;
     if (selected === null) this.showWaits(state, sites);
     else this.showSite(state, selected);

@@ -1,8 +1,8 @@
 """The page in a headless Chromium, by selenium: what a person does there and reads there.
 
 On Debian all of it comes by `apt-get install chromium chromium-driver python3-selenium`. Each process of pytest -n has
-a Chromium of its own. Each test opens the page anew, in a browser that has stored nothing, and fails if the page notes
-a warning or an error on its console."""
+a Chromium of its own. Each test has the page anew, or as the tests before it have left it, in a browser that has stored
+nothing, and fails if the page notes a warning or an error on its console."""
 import contextlib
 import json
 import re
@@ -50,6 +50,8 @@ def started():
     except WebDriverException as fault:
         pytest.skip(f"Chromium does not start here: {fault.msg}")
     driver.set_script_timeout(SECONDS)
+    # Whether it has the page as a test has left it that took `kept`.
+    driver.has_kept = False
     # Its times are those for which the processor worked on the page, so that programs beside it count little.
     driver.execute_cdp_cmd("Performance.enable", {"timeDomain": "threadTicks"})
     return driver
@@ -66,11 +68,17 @@ def chromium():
 def opened(driver, address):
     """The page at an address, as in a browser that was never used."""
     page = Page(driver, address)
+    driver.has_kept = False
     driver.get("about:blank")
     page.cdp("Storage.clearDataForOrigin", origin=re.match("file://|http://[^/]*", address)[0], storageTypes="all")
     driver.get_log("browser")
     page.look()
     yield page
+    check_console(driver)
+
+
+def check_console(driver):
+    """Tries that the page has noted no warning and no error on its console."""
     assert [it["message"] for it in driver.get_log("browser") if it["level"] in ("WARNING", "SEVERE")] == []
 
 
@@ -79,6 +87,25 @@ def page(chromium):
     """The page in one file, from the disk."""
     with opened(chromium, FILE) as it:
         yield it
+
+
+@pytest.fixture
+def kept(request, chromium):
+    """The same as the test before has left it, with nothing stored, and with switches and fields as they are at first.
+    It is loaded if the test before had another page, or has failed. A test that takes it goes to an address first."""
+    failed, it = request.session.testsfailed, Page(chromium, FILE)
+    if chromium.has_kept:
+        it.look()
+        it.wait("reset")
+        chromium.get_log("browser")
+    else:
+        with opened(chromium, FILE):
+            it.open()
+    # Whatever ends the test, no other one has the page as it is then.
+    chromium.has_kept = False
+    yield it
+    check_console(chromium)
+    chromium.has_kept = request.session.testsfailed == failed
 
 
 @pytest.fixture(scope="session")
@@ -104,12 +131,19 @@ class Page:
         return self.driver.execute_cdp_cmd(name, given)
 
     def open(self, said=""):
+        """Loads the page with an address."""
         self.driver.get("about:blank")
         self.driver.get(f"{self.address}#{said}" if said else self.address)
         self.wait()
 
-    def look(self, width=1280, height=800, scheme="light", motion="no-preference"):
-        """Gives the page a size in points and a colour scheme, light or dark, and says whether to reduce motion."""
+    def go(self, said):
+        """Has the page that is loaded show another address, which takes a fifth of what a load takes. What the reader
+        has set stays, such as switches and the size of letters."""
+        self.wait("went", said)
+
+    def look(self, width=1280, height=800, scheme="light", motion="reduce"):
+        """Gives the page a size in points and a colour scheme, light or dark, and says whether to reduce motion. Marks
+        fly only where a test asks for that by `no-preference`, since each flight is drawn frame by frame."""
         wanted = {"prefers-color-scheme": scheme, "prefers-reduced-motion": motion}
         self.cdp("Emulation.setDeviceMetricsOverride", width=width, height=height, deviceScaleFactor=1, mobile=False)
         self.cdp("Emulation.setEmulatedMedia", features=[{"name": it, "value": wanted[it]} for it in wanted])
@@ -118,13 +152,14 @@ class Page:
         """Returns the value of JavaScript in the page, with the functions of tests/page/looks.js."""
         return self.driver.execute_script(f"{LOOKS}return {code}", *given)
 
-    def until(self, code, seconds=SECONDS):
+    def until(self, code):
         """Waits until JavaScript in the page is true."""
-        WebDriverWait(self.driver, seconds, 0.01).until(lambda _: self.js(code), code)
+        WebDriverWait(self.driver, SECONDS, 0.02).until(lambda _: self.js(code), code)
 
-    def wait(self, how="rest"):
+    def wait(self, how="rest", *given):
         """Waits until the page is at rest, or also `drawn`, and returns what was seen of a `flight`."""
-        return self.driver.execute_async_script(f"{LOOKS}{how}(arguments[0])")
+        return self.driver.execute_async_script(
+            f"{LOOKS}const given = [...arguments]; {how}(given.pop(), ...given)", *given)
 
     def __getattr__(self, name):
         """Returns what tests/page/looks.js has under this name, such as `text` and `unseen`, as a call."""
@@ -150,7 +185,7 @@ class Page:
     def hash(self, pattern):
         """Waits until the address is written and has this in it, and returns it."""
         time.sleep(0.5)
-        self.until(f"/{pattern}/.test(decodeURIComponent(location.hash))", 5)
+        self.until(f"/{pattern}/.test(decodeURIComponent(location.hash))")
         return self.js("location.hash")[1:]
 
     def chain(self):
@@ -160,15 +195,17 @@ class Page:
         """Clicks parts of the page, which begin with #, presses keys, by their names in JavaScript, and types texts. A
         key behind ^ is pressed with Control. A click fails if its part is hidden, or if another thing covers it.
         Returns how many events are done then."""
+        done = None
         for it in what:
             if re.match("#.", it):
-                self.one(it).click()
+                # A mark that flies would be elsewhere by the time of the click.
+                self.wait("landed", it).click()
             else:
                 chain = self.chain().key_down(Keys.CONTROL) if re.match(r"\^.", it) else self.chain()
                 name = re.sub("(?<=[a-z])(?=[A-Z])", "_", it).upper()
                 chain.send_keys(getattr(Keys, name, it.lstrip("^"))).key_up(Keys.CONTROL).perform()
-            self.wait()
-        return self.event()
+            done = self.wait("done")
+        return done
 
     def fill(self, where, text):
         """Types a text in the place of another."""
@@ -179,10 +216,19 @@ class Page:
         listed = [f"#enabled li:nth-child({it + 1}) button" for it in range(self.count("#enabled button"))]
         return bool(listed and self.do(chance.choice(["#first", "#random", "#step", *listed])))
 
+    def steps_by_chance(self, chance, count=999):
+        """Does so many events at most by one of the buttons each, without a pointer, which takes a tenth of the time.
+        Returns how many events are done then, and the checks that failed behind one of them."""
+        return self.wait("stepped", [chance.random() for _ in range(count)])
+
     def write_plan(self, plan):
-        """Puts in a plan of one's own and asks for it."""
+        """Puts in a plan of one's own and asks for it. Only a short one is typed: of a long one Chromium lays out line
+        by line as it comes, for many seconds."""
         self.do("#own", "#text", "^a")
-        self.cdp("Input.insertText", text=plan)
+        if len(plan) < 2000:
+            self.cdp("Input.insertText", text=plan)
+        else:
+            self.js("(one('#text').value = arguments[0], null)", plan)
         self.do("#use")
 
     def is_said_by_shell(self):

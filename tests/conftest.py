@@ -1,6 +1,10 @@
 """What all tests share: the programs that they call are built first, and at the end the results are counted by file."""
 import collections
 import os
+import shlex
+import sys
+import tempfile
+from pathlib import Path
 
 import pytest
 
@@ -19,12 +23,26 @@ def pytest_addoption(parser):
 
 
 def pytest_configure(config):
+    # The processes of pytest -n have the path of the one that begins them.
+    if not hasattr(config, "workerinput"):
+        config.add_cleanup(put_python_on_the_path())
     calls.HOW["is_unproved"] = config.getoption("unproved")
     # With -n the tests of a group are done by one process. Those processes get the arguments alone, which lack this.
     if getattr(config.option, "dist", "") == "load":
         config.option.dist = "loadgroup"
     if hasattr(config, "workerinput"):
         config.option.loadgroup = True
+
+
+def put_python_on_the_path():
+    """Has the tools run by the Python that runs the tests, which has what they need, and not by one that looks for a
+    Python first. Returns what takes that back."""
+    folder = tempfile.TemporaryDirectory(prefix="python-")
+    program = Path(folder.name, "python3")
+    program.write_text(f'#!/bin/sh\nexec {shlex.quote(sys.executable)} "$@"\n', "utf-8")
+    program.chmod(0o755)
+    os.environ["PATH"] = f"{folder.name}:{os.environ['PATH']}"
+    return folder.cleanup
 
 
 def pytest_collection_modifyitems(items):

@@ -56,12 +56,14 @@ def test_pair(article):
 
 
 def test_ring(article):
-    """A meal turns arrows, and whoever is last in them may eat if nobody has asked, as the text says."""
+    """A meal turns arrows, and whoever is last in them may eat if nobody has asked, as the text says. Marks fly at the
+    end."""
     assert article.texts("#ring .canvas .rank text") == list("43210")
     for _ in range(10):
         said = pressed(article, "#ring", "Step")
     assert said.startswith("e begins meal 1: ") and article.texts("#ring .canvas .rank text") == list("32104")
     pressed(article, "#ring", "Again")
+    article.look(motion="no-preference")
     pressed(article, "#ring", "a grows hungry")
     assert pressed(article, "#ring", "a begins meal 1").startswith("a begins meal 1: ")
     assert article.texts("#ring .canvas .rank text")[0] == "4"
@@ -80,16 +82,16 @@ def test_four_ways_in_the_text(article):
     assert all("All others have eaten" in it for it in ends[1:3]) and "for ever" in ends[3]
 
 
-@pytest.mark.parametrize(("width", "height"), SIZES)
-def test_width_of_the_article(article, width, height):
-    """The article fits into a window, also with large letters, and its figures are drawn in it."""
-    article.look(width, height)
-    article.open()
-    pressed(article, "#pair", "Step")
-    for letters in (16, 32):
-        article.js(f"document.documentElement.style.fontSize = '{letters}px'")
-        assert article.js("document.documentElement.scrollWidth") <= width
-    assert article.count("figure .canvas .site") == 12
+def test_width_of_the_article(article):
+    """The article fits into each window, also with large letters, and its figures are drawn in it."""
+    found = {}
+    for width, height in SIZES:
+        article.look(width, height)
+        article.wait("drawn")
+        pressed(article, "#pair", "Step")
+        found[width] = [max(0, it - width) for it in article.widthsWith(16, 32)]
+        assert article.count("figure .canvas .site") == 12
+    assert found == {width: [0, 0] for width, _ in SIZES}
 
 
 def test_legend_explains(article):

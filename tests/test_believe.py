@@ -25,38 +25,53 @@ def planted(tmp_path):
         copy = shutil.copytree if os.path.isdir(f"{HOME}/{path}") else shutil.copy
         copy(f"{HOME}/{path}", tmp_path / path)
 
-    def plants(path, old, new):
-        text, count = re.subn(old, new, text_of(path), count=1, flags=re.M)
-        assert count == 1
-        (tmp_path / path).write_text(text, "utf-8")
+    def plants(*changes):
+        for path, old, new in changes:
+            text, count = re.subn(old, new, (tmp_path / path).read_text("utf-8"), count=1, flags=re.M)
+            assert count == 1
+            (tmp_path / path).write_text(text, "utf-8")
         return lambda *words: answer_of(words[1:], f"{tmp_path}/tools/{words[0]}")
 
     return plants
 
 
+def unsaid(planted, tool, faults):
+    """Plants these faults, and returns what a tool, which has to fail, says of none of them."""
+    ran = planted(*(it[:3] for it in faults))(tool)
+    assert ran.status == 1
+    return [said for *_, said in faults if f"{tool}: {said}" not in ran.output]
+
+
+# Changes of a file, by what is there and what takes its place, and what tools/believe says of each. Those of a list are
+# planted together.
+FAULTS = [
+    [
+        (HEADLINE, r"^(    pub )all_taken :", r"\1planted : IsPlanted plan\n\g<0>",
+         f"names: {HEADLINE}: IsHeadline uses IsPlanted, which has no definition"),
+        (JOINED, "record IsWholeLog ", "record IsHalfLog ",
+         f"names: {HEADLINE}: IsTheFork uses IsWholeLog, which has no definition in Rattle.dine_rules.specs."
+         "JoinedEnds"),
+        (HEADLINE, "pub in_hand :", "pub held :", f"clauses: docs/PROVED.md: {HEADLINE} has no IsTheFork in_hand"),
+        (GUIDE, "`IsHeadline`", "`IsHedline`", f"clauses: {GUIDE}: {HEADLINE} has no IsHedline"),
+        (GUIDE, r"\[`IsAcyclic`\]\(.*?\)", "", f"rows: {GUIDE} has no row for IsAcyclic "),
+        (GUIDE, "`is_utf8`", "", f"names: {GUIDE} does not explain is_utf8, which "),
+        (RUN, "^    ensures ok .*", r"\g<0>\n    ensures planted { IsTrue true }",
+         "prose: docs/BELIEVE.md does not explain the clause `planted` of run"),
+    ],
+    [(RUN, "ensures ok ", "ensures ", "clauses: a clause of run has no name: ensures { IfOk result (IsRun")],
+]
+
+
 @pytest.mark.slow
-@pytest.mark.parametrize(("path", "old", "new", "said"), [
-    (HEADLINE, r"^(    pub )all_taken :", r"\1planted : IsPlanted plan\n\g<0>",
-     f"names: {HEADLINE}: IsHeadline uses IsPlanted, which has no definition"),
-    (JOINED, "record IsWholeLog ", "record IsHalfLog ",
-     f"names: {HEADLINE}: IsTheFork uses IsWholeLog, which has no definition in Rattle.dine_rules.specs.JoinedEnds"),
-    (HEADLINE, "pub in_hand :", "pub held :", f"clauses: docs/PROVED.md: {HEADLINE} has no IsTheFork in_hand"),
-    (GUIDE, "`IsHeadline`", "`IsHedline`", f"clauses: {GUIDE}: {HEADLINE} has no IsHedline"),
-    (GUIDE, r"\[`IsAcyclic`\]\(.*?\)", "", f"rows: {GUIDE} has no row for IsAcyclic "),
-    (GUIDE, "`is_utf8`", "", f"names: {GUIDE} does not explain is_utf8, which "),
-    (RUN, "^    ensures ok .*", r"\g<0>\n    ensures planted { IsTrue true }",
-     "prose: docs/BELIEVE.md does not explain the clause `planted` of run"),
-    (RUN, "ensures ok ", "ensures ", "clauses: a clause of run has no name: ensures { IfOk result (IsRun"),
-])
-def test_planted_fault(planted, path, old, new, said):
-    ran = planted(path, old, new)("believe")
-    assert ran.status == 1 and f"believe: {said}" in ran.output
+@pytest.mark.parametrize("faults", FAULTS, ids=["many", "clause without a name"])
+def test_planted_faults(planted, faults):
+    assert unsaid(planted, "believe", faults) == []
 
 
 @pytest.mark.slow
 def test_line_that_moved(planted):
     """It is found, also in what BELIEVE.md shows, and both are mended."""
-    call = planted(HEADLINE, "^use", "\n\\g<0>")
+    call = planted((HEADLINE, "^use", "\n\\g<0>"))
     line = 1 + text_of(HEADLINE).split("pub record IsHeadline ")[0].count("\n")
     moved = f"IsHeadline of {HEADLINE} is line {line + 1}; tools/pages --write mends it"
     assert f"#L{line})" in text_of(GUIDE) and f"pages: {GUIDE}: {moved}" in call("pages").output
@@ -64,18 +79,28 @@ def test_line_that_moved(planted):
     assert "mends it" not in call("pages", "--write").output and call("believe", "--write").status == 0
 
 
+# The same for the two fences of a call in a README, and for tools/pages.
+CALLS = {
+    "sources": [
+        ("crates/dine_site_thread_tests/src/journals.rt", r"world\.step\(\*event\)", "world.step(event)",
+         f"{CALL}: {NO_LINE}'        same(rt, &world.step(*event), &Ok(()));'"),
+        ("crates/dine_world/src/world.rt", "^    pub fn step", r"\g<0>s", f"{CALL}: {NO_LINE}'pub fn step("),
+    ],
+    "README": [
+        (CALL, "^    for event", "  for event", f"{CALL}: {NO_LINE}'  for event in events {{'"),
+        (CALL, r"\]\(src/world\.rt\) has", "](src/lib.rt) has", f"{CALL}: {NO_LINE}'/// Does the event.'"),
+    ],
+    "heading": [
+        (CALL, "^## A call$", "## Calls",
+         f"{CALL}: it shows no call with its contract, in two fences below '## A call'"),
+    ],
+}
+
+
 @pytest.mark.slow
-@pytest.mark.parametrize(("path", "old", "new", "said"), [
-    ("crates/dine_site_thread_tests/src/journals.rt", r"world\.step\(\*event\)", "world.step(event)",
-     f"{NO_LINE}'        same(rt, &world.step(*event), &Ok(()));'"),
-    ("crates/dine_world/src/world.rt", "^    pub fn step", r"\g<0>s", f"{NO_LINE}'pub fn step("),
-    (CALL, "^    for event", "  for event", f"{NO_LINE}'  for event in events {{'"),
-    (CALL, r"\]\(src/world\.rt\) has", "](src/lib.rt) has", f"{NO_LINE}'/// Does the event.'"),
-    (CALL, "^## A call$", "## Calls", "it shows no call with its contract, in two fences below '## A call'"),
-])
-def test_call_that_is_not_in_the_source(planted, path, old, new, said):
-    ran = planted(path, old, new)("pages")
-    assert ran.status == 1 and f"pages: {CALL}: {said}" in ran.output
+@pytest.mark.parametrize("faults", CALLS.values(), ids=CALLS)
+def test_calls_that_are_not_in_the_source(planted, faults):
+    assert unsaid(planted, "pages", faults) == []
 
 
 @pytest.mark.slow
@@ -93,16 +118,18 @@ def test_export(tmp_path):
 
 
 @pytest.mark.slow
-@pytest.mark.parametrize(("path", "old", "new", "cited"), [
-    (HEADLINE, "^use", "use Rattle.dine_rules.proofs.links.Coming.{any}\n\\g<0>", "links.Coming of dine_rules"),
-    ("crates/dine_site/src/site/marked.rt", "dine_set::proofs::shared::", "dine_set::proofs::",
-     "MarksOf.marks_laws of dine_set"),
-])
-def test_citation_across_crates(planted, path, old, new, cited):
-    """tools/pages finds it with its line, and no other one."""
-    line = 1 + re.split(old, text_of(path), maxsplit=1, flags=re.M)[0].count("\n")
-    said, output = "which is not in its proofs/shared/", planted(path, old, new)("pages").output
-    assert f"pages: {path}:{line}: cites {cited}, {said}\n" in output and output.count(said) == 1
+def test_citations_across_crates(planted):
+    """tools/pages finds each with its line, and no other one."""
+    changes = [
+        (HEADLINE, "^use", "use Rattle.dine_rules.proofs.links.Coming.{any}\n\\g<0>", "links.Coming of dine_rules"),
+        ("crates/dine_site/src/site/marked.rt", "dine_set::proofs::shared::", "dine_set::proofs::",
+         "MarksOf.marks_laws of dine_set"),
+    ]
+    said, output = "which is not in its proofs/shared/", planted(*(it[:3] for it in changes))("pages").output
+    for path, old, _, cited in changes:
+        line = 1 + re.split(old, text_of(path), maxsplit=1, flags=re.M)[0].count("\n")
+        assert f"pages: {path}:{line}: cites {cited}, {said}\n" in output
+    assert output.count(said) == len(changes)
 
 
 def test_export_that_cannot_be_written():

@@ -29,6 +29,8 @@ RT = shutil.which("rt")
 KIT = os.path.dirname(os.path.dirname(os.path.realpath(RT))) if RT else ""
 # Before a command: it runs where the kit cannot be seen.
 HIDDEN = ["unshare", "-rm", "sh", "-euc", 'mount -t tmpfs none "$0"; if command -v rt; then exit 1; fi; exec "$@"', KIT]
+# Each crate is compiled once, and nobody looks at it by a debugger: what is for that takes half of the time.
+CARGO = {"CARGO_INCREMENTAL": "0", "CARGO_PROFILE_DEV_DEBUG": "0", "CARGO_PROFILE_TEST_DEBUG": "0"}
 # Four ranks on any machine, as any user, which give way while they wait.
 MPI = {"OMPI_ALLOW_RUN_AS_ROOT": "1", "OMPI_ALLOW_RUN_AS_ROOT_CONFIRM": "1", "OMPI_MCA_mpi_yield_when_idle": "1",
        "OMPI_MCA_rmaps_base_oversubscribe": "1", "OMPI_MCA_btl_vader_single_copy_mechanism": "none"}
@@ -85,7 +87,7 @@ class Place:
 
     def __init__(self, folder, is_hidden):
         self.folder, self.before = folder, HIDDEN if is_hidden and KIT else []
-        self.environment = {**os.environ, **MPI, "CARGO_TARGET_DIR": f"{folder}/target",
+        self.environment = {**os.environ, **MPI, **CARGO, "CARGO_TARGET_DIR": f"{folder}/target",
                             "PYTHONPATH": f"{folder}/bindings/python", **({"DINE_NOKIT": "1"} if is_hidden else {})}
         for name in ("bindings", "examples"):
             shutil.copytree(f"{HOME}/{name}", f"{folder}/{name}", ignore=shutil.ignore_patterns(

@@ -8,21 +8,22 @@ ENDS = "#compare .end"
 COUNTS = "all('#compare .way').map((it) => [...it.querySelectorAll('dd')].map((one) => one.textContent))"
 
 
-def test_four_ways(page):
+def test_four_ways(kept):
     """All four are run at once, and again as soon as something else is chosen."""
-    page.open(RING)
-    assert page.texts("#compare .way") == []
-    page.do("#compare button")
-    plain, ordered, waiter, proved = page.js(COUNTS)
+    kept.go("plan=plans/pair.toml")
+    kept.go(RING)
+    assert kept.texts("#compare .way") == []
+    kept.do("#compare button")
+    plain, ordered, waiter, proved = kept.js(COUNTS)
     assert plain == ["0 of 10", "15, and no meal", "for ever", "0 at most"]
     assert ordered[:2] == ["10 of 10", "60, 6.0 a meal"] and waiter[:2] == ["10 of 10", "30, 3.0 a meal"]
     assert proved[0] == "10 of 10" and proved[3] == "1 at most"
-    ends = page.texts(ENDS)
+    ends = kept.texts(ENDS)
     assert ends[0].startswith("Deadlock: ") and all(it.startswith("All have eaten") for it in ends[1:])
-    assert page.count("#compare .strip .eating") == 3 * 10 and page.count("#compare .strip .ever") == 5
-    page.do("#compare option[value='0 after']")
-    assert [it.startswith("a has stopped. ") for it in page.texts(ENDS)] == [False, True, True, True]
-    assert "All others have eaten" in page.texts(ENDS)[1] and "b, c, d and e wait for ever" in page.texts(ENDS)[3]
+    assert kept.count("#compare .strip .eating") == 3 * 10 and kept.count("#compare .strip .ever") == 5
+    kept.do("#compare option[value='0 after']")
+    assert [it.startswith("a has stopped. ") for it in kept.texts(ENDS)] == [False, True, True, True]
+    assert "All others have eaten" in kept.texts(ENDS)[1] and "b, c, d and e wait for ever" in kept.texts(ENDS)[3]
 
 
 # Of each strip how wide its rows are, which turns they show, and how far they are from the left of their card.
@@ -37,36 +38,34 @@ SIDES = """all('#compare .way').map((card) => [...card.querySelectorAll('dd')].m
 EVER = "all('#compare .strip').map((it) => it.querySelectorAll('.ever').length)"
 
 
-@pytest.mark.parametrize("width", [390, 1280])
-@pytest.mark.parametrize(("stops", "waiting"), [
-    ("", [5, 0, 0, 0]), ("2 meal", [5, 3, 4, 4]), ("2 after", [5, 0, 0, 4])])
-def test_one_scale(page, width, stops, waiting):
-    """All four strips have the same scale, and who waits for ever is seen to do so in each. Below each way is why."""
-    page.look(width, 844)
-    page.open(RING)
-    page.do("#compare button", f"#compare option[value='{stops}']")
-    strips = page.js(STRIPS)
-    assert len({it for card in strips for it in card}) == 1 and [len(it) for it in strips] == [5] * 4
-    assert len({it for card in page.js(SIDES) for it in card}) == 1 and page.js(EVER) == waiting
-    assert page.count("#compare .strip .eating[x]") == page.js("all('#compare .strip .eating').length")
-    assert [it.startswith("Why: ") for it in page.texts("#compare .why")] == [True] * 4
-
-
-def test_another_plan(page):
-    """What was shown of another plan goes, and one that is too large is not run."""
-    page.open(RING)
-    page.do("#compare button")
-    page.open("plan=plans/pair.toml")
-    assert page.count("#compare .way") == 0
-    page.do("#compare button")
-    assert page.texts(ENDS)[3].startswith("All have eaten all their meals")
-    page.open("plan=plans/star_of_64.toml")
-    assert page.count("#compare button:disabled") == 1 and "too many" in page.text("#compare > .note:last-child")
+# Where a site stops, and how many sites wait for ever in each way then.
+STOPS = {"": [5, 0, 0, 0], "2 meal": [5, 3, 4, 4], "2 after": [5, 0, 0, 4]}
 
 
 @pytest.mark.parametrize("width", [320, 390, 768, 1280])
-def test_no_sideways_scroll(page, width):
-    page.look(width, 844)
-    page.open(RING)
-    page.do("#compare button")
-    assert page.count("#compare .way") == 4 and page.js("document.documentElement.scrollWidth") <= width
+def test_one_scale(kept, width):
+    """All four strips have the same scale, and who waits for ever is seen to do so in each. Below each way is why.
+    Nothing scrolls sideways."""
+    kept.look(width, 844)
+    kept.go(RING)
+    kept.do("#compare button")
+    for stops, waiting in STOPS.items():
+        kept.do(f"#compare option[value='{stops}']")
+        strips = kept.js(STRIPS)
+        assert len({it for card in strips for it in card}) == 1 and [len(it) for it in strips] == [5] * 4
+        assert len({it for card in kept.js(SIDES) for it in card}) == 1 and kept.js(EVER) == waiting
+        assert kept.count("#compare .strip .eating[x]") == kept.count("#compare .strip .eating")
+        assert [it.startswith("Why: ") for it in kept.texts("#compare .why")] == [True] * 4
+        assert kept.js("document.documentElement.scrollWidth") <= width
+
+
+def test_another_plan(kept):
+    """What was shown of another plan goes, and one that is too large is not run."""
+    kept.go(RING)
+    kept.do("#compare button")
+    kept.go("plan=plans/pair.toml")
+    assert kept.count("#compare .way") == 0
+    kept.do("#compare button")
+    assert kept.texts(ENDS)[3].startswith("All have eaten all their meals")
+    kept.go("plan=plans/star_of_64.toml")
+    assert kept.count("#compare button:disabled") == 1 and "too many" in kept.text("#compare > .note:last-child")

@@ -4,7 +4,7 @@ import re
 from pathlib import Path
 
 import pytest
-from calls import REFUSED, stored_texts
+from calls import REFUSED, dine, stored_texts
 from features.explain import explained
 from lib.files import HOME, paths
 from lib.process import answer_of
@@ -82,10 +82,11 @@ def test_place_is_found(text, line):
 @pytest.mark.parametrize("text, place, marked, said", SLIPS.values(), ids=SLIPS)
 def test_slip(text, place, marked, said):
     """The program refuses the plan, and the place of the slip is found, with words that say how to mend it."""
-    answer = answer_of(["explain", "-"], input=text.encode())
+    checked = dine("check", input=text.encode())
+    assert checked[:2] == (3, "") and checked.error.startswith(REFUSED)
     line, column = map(int, place.split(":"))
-    head, shown, marks = answer.output.splitlines()
-    assert (answer.status, answer.error[:len(REFUSED)]) == (3, REFUSED) and head.startswith(f"standard input:{place}: ")
+    head, shown, marks = explained("t", text.encode(), checked.error).splitlines()
+    assert head.startswith(f"t:{place}: ")
     assert shown == f" {line} | {text.splitlines()[line - 1]}".rstrip()
     assert marks == f"   | {' ' * (column - 1)}{'^' * max(1, len(marked))} {said}"
     assert text.splitlines()[line - 1].startswith(marked, column - 1)
@@ -98,6 +99,12 @@ def test_program_and_place(tmp_path):
     answer = answer_of(["explain", str(plan)])
     assert (answer.status, answer.error) == (3, f"{REFUSED}12 UnknownEnd at edge 0\n")
     assert answer.output.startswith(f"{plan}:5:14: An end of this edge is no site's name.\n")
+
+
+def test_standard_input():
+    text = SLIPS["colon"][0].encode()
+    error = dine("check", input=text).error
+    assert answer_of(["explain", "-"], input=text) == (3, explained("standard input", text, error) + "\n", error)
 
 
 def test_other_files():

@@ -21,7 +21,9 @@ def browser(tmp_path_factory):
         yield it
 
 
+# One process of pytest -n has the browser.
 @pytest.mark.slow
+@pytest.mark.xdist_group("firefox")
 @pytest.mark.parametrize(("width", "height"), SIZES)
 @pytest.mark.parametrize("name", PAGES)
 def test_page_in_firefox(browser, name, width, height):

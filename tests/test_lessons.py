@@ -23,26 +23,29 @@ for it in itertools.chain(*LESSONS.values()):
 
 def is_shown(page, moment):
     """A moment shows what it says, and no more."""
-    note, kinds, seen = " ".join(moment["note"].split()), moment["show"], page.kinds()
-    assert page.moment()[1:] == [moment["title"], moment["at"]]
-    assert len(note.split()) <= 45 and " ".join(page.texts("#moment-note p")) == note.replace("*", "")
-    assert page.choices() == [int(it) for it in re.findall("[0-9]+", moment.get("choices", ""))][:moment["at"]]
-    assert set(seen) <= set(kinds) if moment.get("naive") == "alone" else seen == kinds
-    assert page.named() == kinds
+    note, kinds, seen = " ".join(moment["note"].split()), moment["show"], page.momentSeen()
+    assert seen["moment"][1:] == [moment["title"], moment["at"]]
+    assert len(note.split()) <= 45 and seen["note"] == note.replace("*", "")
+    assert seen["choices"] == [int(it) for it in re.findall("[0-9]+", moment.get("choices", ""))][:moment["at"]]
+    assert set(seen["kinds"]) <= set(kinds) if moment.get("naive") == "alone" else seen["kinds"] == kinds
+    assert seen["named"] == kinds
     # Where there is no space for it in the picture, it is below.
-    pointed = page.text("#pointed").partition(": ")[2]
-    assert (" ".join(page.texts(".side-by:not([hidden]) .callout text")) or pointed) == moment.get("callout", "")
-    assert page.misplaced() == ""
+    assert (seen["callout"] or seen["pointed"]) == moment.get("callout", "")
+    assert seen["misplaced"] == ""
 
 
 @pytest.mark.slow
 @pytest.mark.parametrize(("width", "height"), [(1280, 800), (1366, 650), (390, 844)])
-@pytest.mark.parametrize("path", LESSONS)
-def test_lesson(page, path, width, height):
+def test_lessons(page, width, height):
     """A lesson is a story of short moments, gone through by button and keys. The picture is in view together with the
     note, its question and the way on."""
-    page.look(width, height, motion="reduce")
+    page.look(width, height)
     page.open(RING)
+    for path in LESSONS:
+        goes_through(page, path)
+
+
+def goes_through(page, path):
     page.do("#lessons", page.text(f'#lessons option[value="{path}"]'), "Enter")
     assert 3 <= len(LESSONS[path]) < 24
     for place, moment in enumerate(LESSONS[path]):
@@ -98,39 +101,39 @@ def test_ten_questions(question):
 
 
 @pytest.mark.parametrize(("path", "place"), QUESTIONS)
-def test_question(page, path, place):
+def test_question(kept, path, place):
     """An answer is checked, and stays while what happens is shown and while the schedule is stepped."""
     moment, following = LESSONS[path][place:place + 2]
-    page.look(motion="reduce")
-    page.open(f"lesson={path}&moment={place + 1}")
+    kept.go(f"lesson={path}&moment={place + 1}")
     wrong = f"#question label:nth-of-type({moment['answer'] % len(moment['options']) + 1})"
     answers = "#question output", "it.className"
-    page.do(wrong, "#question button")
-    assert page.each(*answers) == ["wrong"]
+    kept.do(wrong, "#question button")
+    assert kept.each(*answers) == ["wrong"]
     # The right one is above it, or the first again, which the keys of a choice go to.
-    page.do(wrong, "ArrowUp", "#question button")
-    assert page.each(*answers) == ["right"]
+    kept.do(wrong, "ArrowUp", "#question button")
+    assert kept.each(*answers) == ["right"]
     begun, rest = moment.get("choices", ""), following.get("choices", "")
     goes_on = rest != begun and rest.startswith(begun and f"{begun},") and moment.get("see", True)
-    assert (page.unseen("#question .main") == []) == goes_on
+    assert (kept.unseen("#question .main") == []) == goes_on
     if goes_on:
-        page.do("#question .main")
-        assert page.moment()[1:] == [moment["title"], following["at"]]
-        page.do("#return")
-    page.do("#step", "#back")
-    assert page.each(*answers) == ["right"]
-    page.do("#next")
-    is_shown(page, following)
+        kept.do("#question .main")
+        assert kept.moment()[1:] == [moment["title"], following["at"]]
+        kept.do("#return")
+    kept.do("#step", "#back")
+    assert kept.each(*answers) == ["right"]
+    kept.do("#next")
+    is_shown(kept, following)
 
 
 def test_way_on_and_home(page):
     """The last moment of a lesson offers the next one, the last of all leads to the challenges, and the title leads to
     the first page."""
-    page.look(390, 844, motion="reduce")
+    page.look(390, 844)
+    page.open()
     paths = ["dining_without_a_waiter", "why_nobody_starves", "from_events_to_threads", "challenges"]
     for path, following in itertools.pairwise(paths):
         path, following = (f"lessons/{it}.toml" for it in (path, following))
-        page.open(f"lesson={path}&moment={len(LESSONS[path]) - 1}")
+        page.go(f"lesson={path}&moment={len(LESSONS[path]) - 1}")
         assert page.unseen("#next-lesson") == ["#next-lesson"]
         page.do("PageDown", "PageDown")
         title = tomllib.loads(text_of(following))["title"]
@@ -164,7 +167,7 @@ def test_way_back_while_an_address_is_noted(page):
 
 def test_late_address(page):
     """An address that is made late does not go over that of what is shown by then."""
-    page.look(390, 844, motion="reduce")
+    page.look(390, 844)
     page.open("lesson=lessons/challenges.toml&moment=3")
     page.do("PageDown", "PageDown")
     # What is packed into an address is kept back.
@@ -180,21 +183,22 @@ def test_late_address(page):
     assert page.js("location.hash") == "" and page.unseen("#begin") == []
 
 
-def test_ways_of_a_moment(page):
+def test_ways_of_a_moment(kept):
     """One tap leads from a moment to the four ways, with the site that stops there."""
-    page.look(390, 844, motion="reduce")
+    kept.look(390, 844)
     path = "lessons/why_nobody_starves.toml"
     asking = [place for place, it in enumerate(LESSONS[path]) if "ways" in it]
     for place in asking:
-        page.open(f"lesson={path}&moment={place + 1}")
-        assert page.count("#compare .way") == 0
-        page.do("#ways-of-moment")
-        assert page.unseen("#compare-name") == [] and page.count("#compare .way") == 4
-        stopped = [it.startswith("c has stopped") for it in page.texts("#compare .end")]
+        kept.go("plan=plans/pair.toml")
+        kept.go(f"lesson={path}&moment={place + 1}")
+        assert kept.count("#compare .way") == 0
+        kept.do("#ways-of-moment")
+        assert kept.unseen("#compare-name") == [] and kept.count("#compare .way") == 4
+        stopped = [it.startswith("c has stopped") for it in kept.texts("#compare .end")]
         assert stopped == [False] + [LESSONS[path][place]["ways"] == "c after"] * 3
     assert len(asking) == 2
-    page.do("PageUp", "PageUp")
-    assert page.unseen("#ways-of-moment") == ["#ways-of-moment"]
+    kept.do("PageUp", "PageUp")
+    assert kept.unseen("#ways-of-moment") == ["#ways-of-moment"]
 
 
 def test_scores_are_of_ones_own_events(page):
@@ -216,11 +220,9 @@ def test_scores_are_of_ones_own_events(page):
 
 def test_lesson_on_a_telephone(page):
     """A lesson with large letters fits, and a swipe is enough."""
-    page.look(390, 844, motion="reduce")
+    page.look(390, 844)
     page.open(f"lesson={STORY}&moment=22")
-    page.js("document.documentElement.style.fontSize = '32px'")
-    assert page.js("document.documentElement.scrollWidth") <= 390
-    page.js("document.documentElement.style.fontSize = ''")
+    assert page.widthsWith(32)[0] <= 390
     for where, far in (("#picture", 120), ("#moment-note", 120), ("#picture", -120)):
         box = page.one(where).rect
         x, y = box["x"] + box["width"] / 2, box["y"] + box["height"] / 2
@@ -232,6 +234,7 @@ def test_lesson_on_a_telephone(page):
 
 def test_motion_between_moments(page):
     """Next plays the events up to the next moment, in which a letter flies along its edge. Once more it skips them."""
+    page.look(motion="no-preference")
     page.open(f"lesson={STORY}&moment=8")
     page.do("#next")
     assert "once more" in page.text("#question output") and page.event() == 4
@@ -278,15 +281,15 @@ def test_keeping(page, tmp_path):
 
 
 @pytest.mark.built("dine_trace")
-def test_questions(page):
+def test_questions(kept):
     """Asked what may happen next, the page hides list and reasons. The program says whether an answer is right."""
-    page.open(f"{RING}&choices={ASKED}")
-    page.do("#picture .site[data-site='4']", "#predict")
-    enabled, words = {it["words"] for it in page.state()["enabled"]}, page.texts("#quiz label span")
-    assert page.unseen("#enabled", "#why") == ["#enabled", "#why"] and not page.count("#enabled button")
+    kept.go(f"{RING}&choices={ASKED}")
+    kept.do("#picture .site[data-site='4']", "#predict")
+    enabled, words = {it["words"] for it in kept.state()["enabled"]}, kept.texts("#quiz label span")
+    assert kept.unseen("#enabled", "#why") == ["#enabled", "#why"] and not kept.count("#enabled button")
     assert enabled & set(words) and set(words) - enabled
     # The first is answered wrongly.
     ticked = [place for place, it in enumerate(words, 1) if (it in enabled) != (place == 1)]
-    page.do(*(f"#quiz label:nth-of-type({it})" for it in ticked), "#quiz button")
-    assert page.text("#quiz output") == f"{len(words) - 1} of {len(words)} right so far"
-    assert page.count("#quiz .wrong") == 1 and page.count("#enabled button") and not page.unseen("#why")
+    kept.do(*(f"#quiz label:nth-of-type({it})" for it in ticked), "#quiz button")
+    assert kept.text("#quiz output") == f"{len(words) - 1} of {len(words)} right so far"
+    assert kept.count("#quiz .wrong") == 1 and kept.count("#enabled button") and not kept.unseen("#why")

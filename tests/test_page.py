@@ -24,80 +24,93 @@ LONG = plan_of([3] * 40, graph_of("ring:40")[1] + [(it, (it + 7) % 40) for it in
 
 
 @pytest.mark.parametrize("name", CASES)
-def test_case(page, name):
+def test_case(request, name):
     """What is done and seen is in tests/tables/page.toml."""
-    page.look(*CASES[name].get("window", ()))
-    for step in [{"open": CASES[name]["open"]}, *CASES[name]["steps"]]:
+    case = CASES[name]
+    page = request.getfixturevalue("page" if "open" in case else "kept")
+    width, height = case.get("window", (1280, 800))
+    page.look(width, height, motion="no-preference" if case.get("flies") else "reduce")
+    for step in [{it: case[it] for it in ("open", "go") if it in case}, *case["steps"]]:
         if "open" in step:
             page.open(step["open"])
+        if "go" in step:
+            page.go(step["go"])
         if "again" in step:
             page.open(page.hash(step["again"]))
         if "do" in step:
             page.do(*step["do"])
-        wanted = step.get("see", {})
-        assert {code: page.js(code) for code in wanted} == wanted
+        if wanted := step.get("see"):
+            assert dict(zip(wanted, page.js(f"[{', '.join(wanted)}]"))) == wanted
 
 
 @pytest.mark.slow
 @pytest.mark.parametrize(("path", "count"), PLAYED)
-def test_schedule(page, path, count):
+def test_schedule(kept, path, count):
     """After random choices, of which some name no event, the buttons lead to an end as the program has it. Marks fly on
     one plan alone, since each flight takes its time."""
-    page.look(motion="no-preference" if path == "plans/pair.toml" else "reduce")
+    kept.look(motion="no-preference" if path == "plans/pair.toml" else "reduce")
     chance, plan = random.Random(path), text_of(path)
     where = f"plan={path}" if path.startswith("plans/") else f"text={urllib.parse.quote(plan)}"
-    page.open(f"{where}&seed={count}&choices={','.join(str(chance.randrange(6)) for _ in range(count))}")
-    while page.step_by_chance(chance):
-        assert page.texts("#checks .broken") == []
-    answer = dine("replay", "--choices", ",".join(map(str, page.choices())), input=plan.encode())
-    assert answer == Answer(0, f"{page.text('#logs')}\n", "")
+    kept.go(f"{where}&seed={count}&choices={','.join(str(chance.randrange(6)) for _ in range(count))}")
+    # A pointer presses the first buttons.
+    for _ in range(4):
+        kept.step_by_chance(chance)
+    assert kept.texts("#checks .broken") == [] and kept.steps_by_chance(chance)[1] == []
+    assert kept.count("#enabled button") == 0
+    answer = dine("replay", "--choices", ",".join(map(str, kept.choices())), input=plan.encode())
+    assert answer == Answer(0, f"{kept.text('#logs')}\n", "")
     if path.startswith("plans/"):
-        page.is_said_by_shell()
+        kept.is_said_by_shell()
 
 
-def test_double_click(page):
+def test_double_click(kept):
     """A double click is one event, though the list moves under the pointer."""
-    page.open(RING)
-    page.chain().double_click(page.one("#enabled li:nth-child(2) button")).perform()
-    page.wait()
-    assert page.event() == 1
+    kept.go(RING)
+    kept.chain().double_click(kept.one("#enabled li:nth-child(2) button")).perform()
+    kept.wait()
+    assert kept.event() == 1
 
 
-def test_picture_and_tables(page):
+# What a step has changed, in the words of tests/page/looks.js.
+CHANGED = """({
+  headings: headings(), words: text("#last b"), before: texts("#picture .rank text"),
+  first: texts("#edges td:nth-child(6)"), dirty: texts("#edges td:nth-child(4)"),
+  counted: texts("#sites td:last-child"), site: all("#picture .site.last").map((it) => Number(it.dataset.site)),
+  drawn: all("#picture .edge").flatMap((it, edge) => it.classList.contains("last") ? [edge] : []),
+  told: all("#edges tbody tr").flatMap((it, edge) => it.classList.contains("last") ? [edge] : []),
+  fork: count("#picture .fork.last"), request: count("#picture .token.last") })"""
+
+
+def test_picture_and_tables(kept):
     """Arrows, ranks, tables and marks are as the program says at each event, which is named. A meal turns arrows."""
-    page.look(motion="reduce")
-    page.open(RING)
-    assert "".join(page.texts("#picture .rank text")) == "43210"
+    kept.go(RING)
+    assert "".join(kept.texts("#picture .rank text")) == "43210"
     chance, turned = random.Random("marks"), set()
-    while page.step_by_chance(chance) and (page.event() < 20 or len(turned) < 2):
-        state = page.state()
+    while kept.step_by_chance(chance) and (kept.event() < 20 or len(turned) < 2):
+        state, seen = kept.state(), kept.js(CHANGED)
         last, edges = state["last"], state["edges"]
         preferred = [edge["preferred"] for edge in edges]
         turned.add(str(preferred))
-        assert page.headings() == preferred and page.text("#last b") == last["words"]
-        assert [it[0] for it in page.texts("#edges td:nth-child(6)")] == ["abcde"[it] for it in preferred]
-        assert [it.startswith("dirty") for it in page.texts("#edges td:nth-child(4)")] == [it["dirty"] for it in edges]
-        assert page.texts("#picture .rank text") == page.texts("#sites td:last-child")
-        assert page.each("#picture .site.last", "Number(it.dataset.site)") == [last["site"]]
-        for where in ("#picture .edge", "#edges tbody tr"):
-            marked = [edge for edge, it in enumerate(page.each(where, "it.classList.contains('last')")) if it]
-            assert marked == ([] if last["edge"] is None else [last["edge"]])
-        moved = {"fork": ".fork.last", "request": ".token.last"}.get(last["letter"])
-        assert not moved or page.count(f"#picture {moved}")
+        assert seen["headings"] == preferred and seen["words"] == last["words"]
+        assert [it[0] for it in seen["first"]] == ["abcde"[it] for it in preferred]
+        assert [it.startswith("dirty") for it in seen["dirty"]] == [it["dirty"] for it in edges]
+        assert seen["before"] == seen["counted"] and seen["site"] == [last["site"]]
+        assert seen["drawn"] == seen["told"] == ([] if last["edge"] is None else [last["edge"]])
+        assert last["letter"] not in ("fork", "request") or seen[last["letter"]]
     assert len(turned) > 1
 
 
 @pytest.mark.parametrize("where", ["#plans", "#pick", "#lessons", "#speed"])
-def test_keys_on_menus(page, where):
+def test_keys_on_menus(kept, where):
     """Arrows, Home, End and space step, though a menu or the slider has the focus, and don't change it."""
-    page.open(f"{RING}&seed=2")
-    before = page.each("select, #speed", "it.value")
-    page.focus(where)
-    assert [page.do(it) for it in ("ArrowRight", "ArrowRight", "ArrowLeft", "End", "Home")] == [1, 2, 1, 2, 0]
-    page.do(" ")
-    assert page.text("#play") == "Pause"
-    page.do(" ")
-    assert page.each("select, #speed", "it.value") == before
+    kept.go(f"{RING}&seed=2")
+    before = kept.each("select, #speed", "it.value")
+    kept.focus(where)
+    assert [kept.do(it) for it in ("ArrowRight", "ArrowRight", "ArrowLeft", "End", "Home")] == [1, 2, 1, 2, 0]
+    kept.do(" ")
+    assert kept.text("#play") == "Pause"
+    kept.do(" ")
+    assert kept.each("select, #speed", "it.value") == before
 
 
 def test_address(page):
@@ -121,7 +134,7 @@ def test_own_plan(page, plan, said):
     page.write_plan(plan)
     assert (page.count("#plan-editor[open]"), page.event()) == (0, 0)
     chance = random.Random("own")
-    assert all(page.step_by_chance(chance) for _ in range(8))
+    assert all(page.step_by_chance(chance) for _ in range(3)) and page.steps_by_chance(chance, 5) == [8, []]
     said, before = page.hash(said), page.said()
     page.open(said)
     assert page.differs(before) == [] and page.event() == 8
@@ -131,7 +144,7 @@ def test_plan_that_is_too_long(page):
     """A plan that is too long for an address leaves it empty, as is said."""
     page.open(RING)
     page.write_plan(LONG + "# " + "".join(map(chr, random.Random(0).choices(range(0x4E00, 0x9FFF), k=26_000))))
-    page.until("location.hash === '' && !one('#too-long').hidden", 10)
+    page.until("location.hash === '' && !one('#too-long').hidden")
 
 
 @pytest.mark.parametrize("which", ["served", "page"])
@@ -163,37 +176,37 @@ def test_late_run(served):
     served.do("ArrowRight", "t")
     assert served.event() == 1
     served.js("answer('4,4,4,4,4')")
-    served.until("one('#timeline-name').textContent === 'What the threads did'", 5)
+    served.until("one('#timeline-name').textContent === 'What the threads did'")
     served.do("End")
     assert served.choices() == [4] * 5 and served.unseen("#building")
     served.do("#threads")
     served.js("answer('it is refused', { status: 500 })")
-    served.until("one('#fault').textContent === 'it is refused'", 5)
+    served.until("one('#fault').textContent === 'it is refused'")
     assert served.unseen("#building")
 
 
-def test_undone_run(page):
+def test_undone_run(kept):
     """A run on threads that another choice or another run did away with comes back."""
-    page.open(RING)
-    page.do("4", "t", "End")
-    run = page.choices()
-    page.do("Home", "1", "2", "^z", "^z", "End")
-    assert (page.choices(), page.text("#timeline-name")) == (run, "What the threads did")
-    page.do("^z")
-    assert page.choices() == [4]
+    kept.go(RING)
+    kept.do("4", "t", "End")
+    run = kept.choices()
+    kept.do("Home", "1", "2", "^z", "^z", "End")
+    assert (kept.choices(), kept.text("#timeline-name")) == (run, "What the threads did")
+    kept.do("^z")
+    assert kept.choices() == [4]
 
 
-def test_long_wait(page):
+def test_long_wait(kept):
     """A run is found in which a site waits long, shown where that site is to eat. What was shown comes back."""
-    page.open(f"{RING}&choices={ASKED}")
-    page.js("(one('#find-site').value = 4, one('#find-count').value = 60, null)")
-    page.do("#find button")
-    begin, end = map(int, re.search(r": e waits, events (\d+) to (\d+)\.$", page.text("#find-note")).groups())
-    assert end - begin >= 59 and page.event() == end and page.state()["sites"][4]["phase"] == "hungry"
-    page.do("ArrowRight")
-    assert page.text("#last b").startswith("e begins meal") and page.text("#find-note")
-    page.do("^z")
-    assert page.text("#find-note") == "" and page.choices() == [int(it) for it in ASKED.split(",")]
+    kept.go(f"{RING}&choices={ASKED}")
+    kept.js("(one('#find-site').value = 4, one('#find-count').value = 60, null)")
+    kept.do("#find button")
+    begin, end = map(int, re.search(r": e waits, events (\d+) to (\d+)\.$", kept.text("#find-note")).groups())
+    assert end - begin >= 59 and kept.event() == end and kept.state()["sites"][4]["phase"] == "hungry"
+    kept.do("ArrowRight")
+    assert kept.text("#last b").startswith("e begins meal") and kept.text("#find-note")
+    kept.do("^z")
+    assert kept.text("#find-note") == "" and kept.choices() == [int(it) for it in ASKED.split(",")]
 
 
 def on_timeline(page, part, drag=0):
@@ -209,14 +222,14 @@ def on_timeline(page, part, drag=0):
     return page.event()
 
 
-def test_timeline(page):
+def test_timeline(kept):
     """A click on the timeline goes behind its event, and says what it was. A drag goes along. What sites do is said."""
-    page.open(f"{RING}&choices={ASKED}")
-    assert 1 <= on_timeline(page, 0.04) < 4
-    assert 6 <= on_timeline(page, 0.04, 0.1) < 9 and page.text("#timeline-hint") == "c waits, events 3 to 10"
+    kept.go(f"{RING}&choices={ASKED}")
+    assert 1 <= on_timeline(kept, 0.04) < 4
+    assert 6 <= on_timeline(kept, 0.04, 0.1) < 9 and kept.text("#timeline-hint") == "c waits, events 3 to 10"
     # An event is 16 points wide: this is the middle of the third.
-    assert on_timeline(page, 40 / page.one("#timeline-view").size["width"]) == 3
-    assert page.text("#timeline-note") == "3 of 10 events: c grows hungry"
+    assert on_timeline(kept, 40 / kept.one("#timeline-view").size["width"]) == 3
+    assert kept.text("#timeline-note") == "3 of 10 events: c grows hungry"
 
 
 @pytest.mark.slow
@@ -225,7 +238,7 @@ def test_long_run(served):
     served.open(RING)
     served.write_plan(plan_of([500] * 5, graph_of("ring:5")[1]).decode())
     served.one("#threads").click()
-    served.until("one('#play').textContent === 'Pause'", 60)
+    served.until("one('#play').textContent === 'Pause'")
     count = served.do(" ", "End")
     assert count >= 7000 and not served.text("#last b").startswith(("After", "The start"))
     assert 0.4 * count < on_timeline(served, 0.5) < 0.6 * count
@@ -248,28 +261,28 @@ COSTS = {"few": (2 * 40, [2] * 16, graph_of("ring:16")[1] + [(it, it + 2) for it
          "many": (2 * 120, [2] * 64, graph_of("band:64")[1]), "large": (2 * 50, [1000] * 64, graph_of("ring:64")[1])}
 
 
-def cost_of_steps(page, motion):
+def cost_of_steps(page, motion, steps):
     """Returns what a step costs on average, in milliseconds of a processor, and how often it lays the page out."""
     page.look(motion=motion)
     costs = []
-    for count in (0, 20):
+    for count in (0, steps):
         for _ in range(count):
             page.chain().send_keys("\ue014").perform()
             page.wait("drawn")
         found = {it["name"]: it["value"] for it in page.cdp("Performance.getMetrics")["metrics"]}
         costs.append((1000 * found["TaskDuration"], found["LayoutCount"]))
-    return [(now - was) / 20 for was, now in zip(*costs)]
+    return [(now - was) / steps for was, now in zip(*costs)]
 
 
 def steps_cost_at_most(page, milliseconds):
     """Does steps, with marks that fly and with marks that don't, and looks at what they cost."""
-    (cost, _), (_, layouts) = (cost_of_steps(page, it) for it in ("no-preference", "reduce"))
+    (cost, _), (_, layouts) = (cost_of_steps(page, *it) for it in (("no-preference", 12), ("reduce", 5)))
     assert cost <= milliseconds and layouts <= LAYOUTS
 
 
 @pytest.mark.slow
 @pytest.mark.parametrize(("milliseconds", "jobs", "edges"), COSTS.values(), ids=COSTS)
-def test_cost_of_steps(page, milliseconds, jobs, edges):
-    page.open(RING)
-    page.write_plan(plan_of(jobs, edges).decode())
-    steps_cost_at_most(page, milliseconds)
+def test_cost_of_steps(kept, milliseconds, jobs, edges):
+    kept.go(RING)
+    kept.write_plan(plan_of(jobs, edges).decode())
+    steps_cost_at_most(kept, milliseconds)

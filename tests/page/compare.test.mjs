@@ -5,7 +5,7 @@ import test from "node:test";
 import { COMPARED, WAYS, WaiterTable, endOf, isComparable, runOf, turnsOf } from "../../page/compare.js";
 import { RING, scheduleOf } from "./rules.mjs";
 
-const SEEDS = Array.from({ length: 60 }, (_, it) => it);
+const SEEDS = Array.from({ length: 25 }, (_, it) => it);
 const JOBS = '[{ name = "1" }, { name = "2" }, { name = "3" }]';
 const FOUR = `version = 1
 site = [${["a", "b", "c", "d"].map((it) => `{ name = "${it}", jobs = ${JOBS} }`)}]

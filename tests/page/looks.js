@@ -29,6 +29,53 @@ function rest(then) {
 // Calls back once the page is at rest and the next frame is drawn.
 const drawn = (then) => rest(() => requestAnimationFrame(() => setTimeout(then)));
 
+// Calls back once the page is at rest, with how many events are done.
+const done = (then) => rest(() => then(count("#count") ? event() : null));
+
+// Does an event for each of these chances from 0 to 1, by one of the buttons for events, until none is enabled. Calls
+// back with how many events are done then, and with the checks that failed behind one of them.
+async function stepped(then, chances) {
+  const broken = [];
+  for (const it of chances) {
+    const listed = all("#enabled button");
+    if (listed.length === 0) break;
+    const buttons = [...all("#first, #random, #step"), ...listed];
+    buttons[Math.floor(it * buttons.length)].click();
+    await new Promise(rest);
+    broken.push(...texts("#checks .broken"));
+  }
+  then([event(), broken]);
+}
+
+// Calls back with an element once the page is at rest and no mark flies.
+const landed = (then, where) => rest(async () => {
+  await Promise.allSettled(document.getAnimations().map((it) => it.finished));
+  then(one(where));
+});
+
+// Shows another address, as the way back of the browser does, with focus and scroll as in a page that was just loaded.
+// Calls back once it is drawn: in its first frame the picture takes the size of its place.
+function went(then, said) {
+  document.activeElement.blur();
+  scrollTo(0, 0);
+  history.replaceState(null, "", `${location.href.replace(/#.*/s, "")}${said && "#"}${said}`);
+  dispatchEvent(new HashChangeEvent("hashchange"));
+  drawn(then);
+}
+
+// Has nothing stored, and switches and fields as they are at first, and calls back once the page is at rest.
+function reset(then) {
+  all("dialog[open]").forEach((it) => it.close());
+  if (document.body.matches(".large")) one("#large").click();
+  all("input[id][type=checkbox]").forEach((it) => { if (it.checked !== it.defaultChecked) it.click(); });
+  all("#seed, #speed, #find-count").forEach((it) => { it.value = it.defaultValue; });
+  one("#pick").value = "random";
+  one("#speed").dispatchEvent(new Event("input"));
+  delete document.documentElement.dataset.theme;
+  localStorage.clear();
+  rest(then);
+}
+
 // Calls back with how many events are done and where the first fork is, for each frame until the page is at rest.
 function flight(then, seen = []) {
   seen.push([event(), new DOMMatrix(getComputedStyle(one("#picture .fork")).transform).e]);
@@ -109,6 +156,13 @@ function misplaced() {
   return isIn ? sites.map((it) => it.parentNode.textContent).join() : "outside";
 }
 
+// All that is seen of a moment of a lesson.
+const momentSeen = () => ({
+  moment: moment(), note: texts("#moment-note p").join(" "), choices: choices(), kinds: kinds(), named: named(),
+  callout: texts(".side-by:not([hidden]) .callout text").join(" "), pointed: text("#pointed").replace(/^.*?: /, ""),
+  misplaced: misplaced(),
+});
+
 const isSeen = (it) => it.getClientRects().length > 0 && getComputedStyle(it).visibility === "visible";
 const labelOf = (it) => it.id || it.textContent.trim().slice(0, 30) || it.className;
 
@@ -157,6 +211,22 @@ function overlaps() {
     return parts.filter((it) => !isIn(it.getBoundingClientRect(), room)).map((it) => `${labelOf(it)} beyond its card`);
   });
   return [...beyond, ...coveringParts()];
+}
+
+// What is wrong in a window of this width: how far it scrolls sideways, and what should not be where it is.
+const faultsOfLayout = (width) => [
+  Math.max(0, document.documentElement.scrollWidth - width), cutOff(), coveredTexts(), overlaps(),
+];
+
+// How wide the page is with letters of each of these sizes, in points.
+function widthsWith(...letters) {
+  const { documentElement: root } = document;
+  const found = letters.map((it) => {
+    root.style.fontSize = `${it}px`;
+    return root.scrollWidth;
+  });
+  root.style.fontSize = "";
+  return found;
 }
 
 function coveringParts() {

@@ -8,7 +8,7 @@ import { planOf } from "./graphs.mjs";
 import { Model } from "./model.mjs";
 import { scheduleOf } from "./rules.mjs";
 
-const RANDOM_PLANS = 150;
+const RANDOM_PLANS = 100;
 
 // A plan of sites and edges. A site is its number of jobs, or has also which of them `fails`, and whether it resigns;
 // job k of site s adds 10 * s + k to the value of each edge, and each third one sets it.
