@@ -53,14 +53,14 @@ def catch(room):
                 (room / "caught").hardlink_to(it)
 
 
-def build_unproved(crate, to):
-    """Builds the program of the crate in this folder, which runs a plan from its standard input, and puts it at this
-    path. Returns 0 and an empty text, or else a status that is not 0 and the output of `rt try`."""
+def build_unproved(crate, to, given=BUSY):
+    """Builds the program of the crate in this folder, which is at work for a second or two on this standard input, and
+    puts it at this path. Returns 0 and an empty text, or else a status that is not 0 and the output of `rt try`."""
     room, name = Path(to).parent / "building", os.path.basename(crate)
     # What a build that was stopped has left there goes.
     shutil.rmtree(room, ignore_errors=True)
     room.mkdir(parents=True)
-    (room / "plan").write_text(BUSY, "utf-8")
+    (room / "plan").write_text(given, "utf-8")
     words = [*BOUND, "rt", "try", name, "--", RUN.get(name, "run")]
     # A second signal, from the terminal, would stop rt try in the middle of ending what it began: it gets a session of
     # its own.
