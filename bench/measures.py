@@ -46,7 +46,12 @@ def loops(count):
 def counts_of(command, plan):
     """Runs a command on a plan, and returns the numbers that it prints as name=number."""
     ran = subprocess.run(command, input=plan, stdout=subprocess.PIPE, stderr=subprocess.PIPE, check=True)
-    found = re.findall(r"(\w+)=(\d+(?:\.\d+)?)\b", (ran.stdout + ran.stderr).decode())
+    return counts_in(ran.stdout + ran.stderr)
+
+
+def counts_in(said):
+    """Returns the numbers that a program printed as name=number."""
+    found = re.findall(r"(\w+)=(\d+(?:\.\d+)?)\b", said.decode())
     return {name: float(count) if "." in count else int(count) for name, count in found}
 
 

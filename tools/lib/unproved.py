@@ -13,7 +13,7 @@ from lib.process import BOUND, Answer
 
 # The input while the program is caught: a plan whose one site is at work for a second or two.
 BUSY = 'version = 1\n[[site]]\nname = "a"\njobs = [' + '{ name = "x", turns = 1000000 }, ' * 30 + "]\n"
-RUN = {"dine_trace": "--run"}
+RUN = {"dine_trace": ["--run"], "dine_bench": ["ring", "1"]}
 
 
 def end_hint(rt):
@@ -61,7 +61,7 @@ def build_unproved(crate, to, given=BUSY):
     shutil.rmtree(room, ignore_errors=True)
     room.mkdir(parents=True)
     (room / "plan").write_text(given, "utf-8")
-    words = [*BOUND, "rt", "try", name, "--", RUN.get(name, "run")]
+    words = [*BOUND, "rt", "try", name, "--", *RUN.get(name, ["run"])]
     # A second signal, from the terminal, would stop rt try in the middle of ending what it began: it gets a session of
     # its own.
     how = {"cwd": crate, "env": {**os.environ, "TMPDIR": str(room)}, "start_new_session": True}

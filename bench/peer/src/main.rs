@@ -2,6 +2,7 @@
 //! without proofs, to measure `run` and `replay` beside it.
 //!
 //!     peer [overtakes|waits] channel|ring|quiet|polite|queue|mutex|parking_lot|fair|desk GRAPH JOBS TURNS RUNS
+//!     peer open mutex|parking_lot GRAPH SUBMITTERS TASKS TURNS GAP WINDOW BOUND SITES [waits]
 //!
 //! The first four kinds and `queue` have the rules of the paper:
 //!
@@ -30,10 +31,17 @@
 //! between its ask and its meal: the largest number and the mean, and the number of asks, of all runs. With `waits` it
 //! also prints the longest wait of a site from its hunger to its meal, in microseconds, in the middle one of all runs;
 //! the first meal of a site is left out. To note that makes a run slower, so these times are not to be compared.
+//!
+//! With `open` tasks arrive while a run goes on, and a pool of threads does them by mutexes. A number of SUBMITTERS
+//! threads submit TASKS tasks each, to the first SITES sites. There are GAP nanoseconds between two tasks of a
+//! submitter, which has WINDOW tickets at most, and in the queue there are BOUND tasks for each site of the graph at
+//! most; 0 stands for none of these, and for all sites. The program prints the nanoseconds of the run, and with `waits`
+//! those from the submission of a task to its begin: in the middle, of the 99th of a hundred, and the most.
 
 mod fair;
 mod locks;
 mod nets;
+mod open;
 mod plan;
 mod queues;
 mod quiet;
@@ -47,17 +55,20 @@ use std::time::Instant;
 use turns::{longest_wait, overtakes, Blind, Noting, Overtakes, Timing, Watch};
 
 const USAGE: &str =
-    "usage: peer [overtakes|waits] channel|ring|quiet|polite|queue|mutex|parking_lot|fair|desk GRAPH JOBS TURNS RUNS";
+    "usage: peer [overtakes|waits] channel|ring|quiet|polite|queue|mutex|parking_lot|fair|desk GRAPH JOBS TURNS RUNS
+       peer open mutex|parking_lot GRAPH SUBMITTERS TASKS TURNS GAP WINDOW BOUND SITES [waits]";
 
 fn main() -> ExitCode {
     let words: Vec<String> = std::env::args().skip(1).collect();
+    if words.first().is_some_and(|word| word == "open") {
+        return ended(open::measured(&words[1..]));
+    }
     let (noted, words) = match words.split_first() {
         Some((first, rest)) if first == "overtakes" || first == "waits" => (first.as_str(), rest),
         _ => ("", &words[..]),
     };
     let Some((kind, plan, runs)) = read(words, noted) else {
-        eprintln!("{USAGE}");
-        return ExitCode::from(2);
+        return ended(None);
     };
     let mut times = Vec::new();
     let mut waits = Vec::new();
@@ -96,11 +107,24 @@ fn main() -> ExitCode {
     }
     times.sort_unstable();
     let (least, most) = (times[0], times[times.len() - 1]);
-    println!(
+    ended(Some(format!(
         "runs={runs} median={} least={least} most={most} {counts}",
         times[times.len() / 2]
-    );
-    ExitCode::SUCCESS
+    )))
+}
+
+/// Prints the line with what was found, or how the program is called.
+fn ended(line: Option<String>) -> ExitCode {
+    match line {
+        Some(line) => {
+            println!("{line}");
+            ExitCode::SUCCESS
+        }
+        None => {
+            eprintln!("{USAGE}");
+            ExitCode::from(2)
+        }
+    }
 }
 
 type Kind = fn(&Plan) -> Ran;

@@ -6,13 +6,26 @@
 //! many meals a site ate while a fork stayed at it. With `--waits` there is a run of `run_jobs` after each, by a clock,
 //! and the middle one of the longest waits of these runs is written, in microseconds.
 //!
+//! With `open` there is an open run over the sites and edges of the plan, of which each site may do JOBS tasks in an
+//! epoch. A number of SUBMITTERS threads submit TASKS tasks each, to sites that look random, among the first SITES. A
+//! task takes TURNS turns. Between two tasks of a submitter there are GAP nanoseconds, it has WINDOW tickets at most,
+//! and BOUND tasks at most wait for a site: if there are as many, the submitter waits a little and tries again. 0 is
+//! for none of these, and for all sites. What is written are the nanoseconds from the first task to the end of the last
+//! one, and how many epochs there were. With `--waits` there are also the nanoseconds from the submission of a task to
+//! its begin: in the middle, of the 99th of a hundred, and the most. If there was more than one epoch, there are those
+//! from when an epoch was over to the first task of the next: in the middle, the most, and together.
+//!
 //! usage: dine_bench channel|ring|world RUNS [--manner eager|greedy|PATIENCE] [--overtakes|--waits] < PLAN
+//!        dine_bench open SUBMITTERS TASKS TURNS GAP WINDOW BOUND SITES JOBS [--waits] < PLAN
 #![tactic(auto)]
 
+mod arrivals;
+mod epochs;
 mod overtakes;
 mod waits;
 
 use anyhow::{Context, Result, bail};
+use arrivals::measure_arrivals;
 use dine::{PlanDiner, open_diners};
 use dine_link::{ChannelLane, Lane, RingLane};
 use dine_plan::{Plan, read_plan};
@@ -250,6 +263,9 @@ fn main(rt: HostRuntime) -> Result<()> {
     let mut arguments = env::args(&rt)?;
     let _program = arguments.next();
     let lane = arguments.next().context("no kind of links")?;
+    if lane.as_str() == "open" {
+        return measure_arrivals(rt, rt.alloc(), &plan_given(rt)?, arguments);
+    }
     let runs: u32 = arguments.next().context("no number of runs")?.parse()?;
     let (first, second) = (arguments.next(), arguments.next());
     let (manner, noted) = options_of(first, second, arguments.next())?;

@@ -24,17 +24,21 @@ impl Job<()> for Turns {
     type Fault = JobFault;
 
     fn run(&mut self, _table: &Table<'_, ()>) -> Result<(), JobFault> {
-        let mut word = self.word;
-        for _ in 0..self.count {
-            word = turned(word);
-        }
-        self.word = word;
+        self.word = turned(self.word, self.count);
         Ok(())
     }
 }
 
-// Returns the word after one turn.
-fn turned(word: u32) -> u32 {
+/// Returns the word after this number of turns.
+pub fn turned(word: u32, count: u32) -> u32 {
+    let mut word = word;
+    for _ in 0..count {
+        word = turned_once(word);
+    }
+    word
+}
+
+fn turned_once(word: u32) -> u32 {
     let word = word ^ (word << 13);
     let word = word ^ (word >> 17);
     word ^ (word << 5)
