@@ -12,7 +12,7 @@ pytestmark = [pytest.mark.early, pytest.mark.slow]
 BREACH = "crates/dine_rules/src/breach.rt"
 # What the tool reads.
 READ = ["tools", "docs/*.md", "page/*.js", "bindings/c/dine.h", "bindings/rust/src", "bindings/python/dine/*.py",
-        *(f"crates/dine_{it}/{folder}" for it in ("draft", "ffi", "reader", "rules", "states")
+        *(f"crates/dine_{it}/{folder}" for it in ("draft", "ffi", "graph", "reader", "rules", "states", "token")
           for folder in ("src", "specs"))]
 
 
