@@ -206,10 +206,25 @@ def test_crate_is_tried_once_it_is_built(place, kind):
 
 
 def test_many_share_several_checks(place):
-    place.write("//! Numbers.\n" + "".join(f"pub fn f{it}() -> u32\n{{\n    {it} + 0\n}}\n" for it in range(31)))
-    mutants = {f"wrong_{it}": (f"    {it} + 0", f"    {it} /* wrong */") for it in range(31)}
-    assert place.tries(mutants, "--lanes", "1")[::2] == (0, "31 passed, 0 failed")
-    assert [it.count(",") // 2 + 1 for it in place.checks()] == [1, 30, 1]
+    place.write("//! Numbers.\n" + "".join(f"pub fn f{it}() -> u32\n{{\n    {it} + 0\n}}\n" for it in range(101)))
+    mutants = {f"wrong_{it}": (f"    {it} + 0", f"    {it} /* wrong */") for it in range(101)}
+    assert place.tries(mutants, "--lanes", "1")[::2] == (0, "101 passed, 0 failed")
+    assert [it.count(",") // 2 + 1 for it in place.checks()] == [1, 100, 1]
+
+
+def test_changes_of_one_that_cancel_out(place):
+    """One that holds a text back while it changes another one like it changes the other function alone."""
+    held = "old:     3\nnew:     5 /* wrong */\nold:     HELD\nnew:     1\n"
+    mutants = {**WRONG, "three_is_wrong": ("    1", "    HELD", held)}
+    assert place.tries(mutants, "--lanes", "1")[::2] == (0, "2 passed, 0 failed")
+    assert place.checks() == ["all: ", "one,three: one,three"]
+
+
+def test_text_behind_the_brace_of_a_head_is_in_the_body(place):
+    place.write(SOURCE.replace("-> u32\n    ensures { result ≡ 1 }\n{", "-> u32 {"))
+    mutants = {**WRONG, "one_is_wrong": ("pub fn one() -> u32 {", "pub fn one() -> u32 { /* wrong */")}
+    assert place.tries(mutants, "--lanes", "1")[::2] == (0, "2 passed, 0 failed")
+    assert place.checks() == ["all: ", "one,three: one,three"]
 
 
 def test_names_of_functions(tmp_path):
