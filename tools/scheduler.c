@@ -23,6 +23,7 @@
 #include <stdlib.h>
 #include <string.h>
 #include <sys/mman.h>
+#include <sys/resource.h>
 #include <sys/syscall.h>
 #include <sys/wait.h>
 #include <unistd.h>
@@ -364,7 +365,9 @@ static void begin_run(uint64_t seed) {
     CPU_SET(sched_getcpu(), &own);
     sched_setaffinity(0, sizeof own, &own);
     dup2(1, 2);
-    alarm((unsigned)number_of("SCHEDULES_SECONDS")); // ends a run that goes on without any point
+    uint64_t seconds = number_of("SCHEDULES_SECONDS");
+    setrlimit(RLIMIT_CPU, &(struct rlimit){seconds, seconds}); // ends a run that goes on without any point
+    alarm((unsigned)(20 * seconds)); // and one that waits at no point, but none that a busy machine holds up
     memset(report, 0, sizeof *report);
     random_state = seed * 0x9e3779b97f4a7c15ull + 12345;
     choose_manner(number_of("SCHEDULES_STEPS"));
