@@ -181,11 +181,12 @@ fn run_arrivals<R: Threads + Wait + Clock + Copy + Drop + Send + 'static>(
 ) -> Result<Arrived> {
     let times = Arc::new(alloc, EpochTimes::open(rt, arrivals.jobs)?)?;
     let values = values_of(alloc, plan, arrivals, &times)?;
-    let executor: Executor<Turning<R>, ()> = if arrivals.bound == 0 {
-        Executor::open(alloc, plan)?
+    let bound = if arrivals.bound == 0 {
+        u32::MAX
     } else {
-        Executor::bounded(alloc, plan, arrivals.bound)?
+        arrivals.bound
     };
+    let executor: Executor<Turning<R>, ()> = Executor::bounded(alloc, plan, bound)?;
     let theirs = executor.share()?;
     let (sites, own) = (plan.sites(), *rt);
     let leader = thread::spawn(rt, move || {
