@@ -181,11 +181,12 @@ fn run_arrivals<R: Threads + Wait + Clock + Copy + Drop + Send + 'static>(
 ) -> Result<Arrived> {
     let times = Arc::new(alloc, EpochTimes::open(rt, arrivals.jobs)?)?;
     let values = values_of(alloc, plan, arrivals, &times)?;
-    let executor: Executor<Turning<R>, ()> = if arrivals.bound == 0 {
-        Executor::open(alloc, plan)?
+    let bound = if arrivals.bound == 0 {
+        u32::MAX
     } else {
-        Executor::bounded(alloc, plan, arrivals.bound)?
+        arrivals.bound
     };
+    let executor: Executor<Turning<R>, ()> = Executor::bounded(alloc, plan, bound)?;
     let theirs = executor.share()?;
     let (sites, own) = (plan.sites(), *rt);
     let leader = thread::spawn(rt, move || {
@@ -376,15 +377,20 @@ fn put<R: Wait + Clock + Copy + Drop>(
 ) -> Result<Option<Ticket<()>>> {
     let mut task = task;
     for _ in rt.forever() {
-        let taken = if has_ticket {
-            executor.submit(rt, alloc, site, task).map(Some)
+        let refused = if has_ticket {
+            match executor.submit(rt, alloc, site, task) {
+                Ok(ticket) => return Ok(Some(ticket)),
+                Err(refused) => refused,
+            }
         } else {
-            executor.execute(rt, site, task).map(|()| None)
+            match executor.execute(rt, site, task) {
+                Ok(()) => return Ok(None),
+                Err(refused) => refused,
+            }
         };
-        match taken {
-            Ok(ticket) => return Ok(ticket),
-            Err(SubmitError::Full(back)) => task = back,
-            Err(_) => bail!("a task was refused"),
+        match refused {
+            SubmitError::Full(back) => task = back,
+            _ => bail!("a task was refused"),
         }
         thread::sleep(rt, Duration::from_micros(A_WHILE));
     }
