@@ -1,11 +1,12 @@
 //! The queue of a site: the tasks that it has still to begin.
 ghost use Rattle.std.specs.Prelude.{◌≡◌, ◌∷◌, ◌++◌, ◌&&◌, ◌||◌, ◌⊎◌, [], IfErr, IfNone, IfOk, IfSome, OnOk};
-ghost use Rattle.std.specs.Prelude.{IsNone, false, length, nat_lt, not, true};
-ghost use Rattle.dine_jobs.specs.Queues.{MayRefuse, task_in};
+ghost use Rattle.std.specs.Prelude.{IsNone, Some, false, length, nat_lt, not, true};
+ghost use Rattle.dine_jobs.specs.Queues.{MayRefuse, submit_error_words, task_in};
 
 use std::alloc::Global;
 use std::collections::VecDeque;
-use std::mem;
+use std::error::Error;
+use std::{fmt, mem};
 
 /// Why an executor did not take a task, which is handed back.
 #[derive(Drop)]
@@ -33,6 +34,29 @@ impl<K: Drop> SubmitError<K> {
         }
     }
 }
+
+/// `the executor is closed`, `the queue is full`, `the plan has no such site` or `out of memory`.
+impl<K: Drop> fmt::Display for SubmitError<K> {
+    ghost output = { λ error. Some (submit_error_words error) };
+
+    fn fmt<W: fmt::Write>(&self, f: &mut fmt::Formatter<W>) -> fmt::Result {
+        match self {
+            SubmitError::Closed(_) => f.write_str("the executor is closed"),
+            SubmitError::Full(_) => f.write_str("the queue is full"),
+            SubmitError::NoSite(_) => f.write_str("the plan has no such site"),
+            SubmitError::Memory(_) => f.write_str("out of memory"),
+        }
+    }
+}
+
+/// The same words, since a task need not be printed.
+impl<K: Drop> fmt::Debug for SubmitError<K> {
+    fn fmt<W: fmt::Write>(&self, f: &mut fmt::Formatter<W>) -> fmt::Result {
+        fmt::Display::fmt(self, f)
+    }
+}
+
+impl<K: Drop> Error for SubmitError<K> {}
 
 // The tasks that a site has still to begin, how many may wait, whether the executor is closed, whether the epoch is
 // over, and whether the site thinks and has to be rung.

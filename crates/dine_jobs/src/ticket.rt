@@ -1,6 +1,11 @@
 //! Tickets, by which whoever submitted a task waits for what it returns.
+ghost use Rattle.std.specs.Prelude.{Some};
+ghost use Rattle.dine_jobs.specs.Queues.{ticket_error_words};
+
 use crossbeam_channel::{Receiver, RecvTimeoutError, Sender, TryRecvError, bounded};
 use std::alloc::{AllocError, Global};
+use std::error::Error;
+use std::fmt;
 use std::rt::Clock;
 use std::sync::Wait;
 use std::time::Duration;
@@ -19,6 +24,20 @@ pub enum TicketError {
     /// The task will not be done: the executor was stopped, or its run ended with a fault. Or its output was taken.
     Gone,
 }
+
+/// `the task has not ended` or `the task will not be done`.
+impl fmt::Display for TicketError {
+    ghost output = { λ error. Some (ticket_error_words error) };
+
+    fn fmt<W: fmt::Write>(&self, f: &mut fmt::Formatter<W>) -> fmt::Result {
+        match self {
+            TicketError::Pending => f.write_str("the task has not ended"),
+            TicketError::Gone => f.write_str("the task will not be done"),
+        }
+    }
+}
+
+impl Error for TicketError {}
 
 // Opens a ticket, with the end that what the task returns is to be sent to.
 pub fn open_ticket<O: Drop>(alloc: Global) -> Result<(Sender<O, Global>, Ticket<O>), AllocError> {
