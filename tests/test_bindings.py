@@ -3,7 +3,7 @@ and misused handles change nothing, and the examples over MPI and with processes
 events.
 
 All but the first is done twice, each time in a copy of bindings/, examples/ and the licences: with the proved library,
-which tools/build makes, and as a user without the kit, where neither rt nor the folder of the kit can be seen. With
+which `rt lib` makes, and as a user without the kit, where neither rt nor the folder of the kit can be seen. With
 pytest -n 2 each way is tried by one process."""
 import functools
 import os

@@ -23,11 +23,6 @@ def program_of(crate, is_unproved=False):
     return f"{HOME}/crates/{crate}/out/{'unproved/' if is_unproved else ''}{crate}"
 
 
-def static_of(crate):
-    """Returns the paths of a static library, and of the module of LLVM that it was compiled of."""
-    return f"{HOME}/crates/{crate}/out/lib{crate}.a", f"{HOME}/crates/{crate}/out/{crate}.bc"
-
-
 def with_those_below(name, known):
     """Returns the names of a crate and of all crates below it."""
     lower = [it for it in known[name].split(":")[1].split() if it in known]

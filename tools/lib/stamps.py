@@ -35,7 +35,7 @@ def sum_of_sources(name):
 def is_current(name, program):
     """Returns whether a program is there and was built from the sources as they are. Notes that for ./dine."""
     noted, words = Path(f"{program}.made"), [f"{HOME}/tools/lib/file_times", os.path.relpath(program, HOME)]
-    if not noted.is_file() or not os.access(program, os.R_OK if program.endswith((".a", ".bc")) else os.X_OK):
+    if not noted.is_file() or not os.access(program, os.R_OK if program.endswith(".a") else os.X_OK):
         return False
     # What file_times prints is from before the sources are read, so a change that is made meanwhile is seen.
     seen = subprocess.run(words, capture_output=True, text=True, check=False).stdout
