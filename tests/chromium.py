@@ -131,9 +131,15 @@ class Page:
         return self.driver.execute_cdp_cmd(name, given)
 
     def open(self, said=""):
-        """Loads the page with an address."""
-        self.driver.get("about:blank")
-        self.driver.get(f"{self.address}#{said}" if said else self.address)
+        """Loads the page with an address. If it is there already it is loaded anew, as by a person: what one process of
+        Chromium stores is there for another one only some moments later."""
+        address = f"{self.address}#{said}" if said else self.address
+        if self.driver.current_url.partition("#")[0].rstrip("/") == self.address.rstrip("/"):
+            self.js("history.replaceState(null, '', arguments[0])", address)
+            self.driver.refresh()
+        else:
+            self.driver.get("about:blank")
+            self.driver.get(address)
         self.wait()
 
     def go(self, said):
