@@ -75,7 +75,7 @@ module _ (plan : SeenPlan) (s : ℕ) (state : LocalState) (failed : Bool) (next 
 -- ---- the run
 
 module _ (plan : SeenPlan) (is_plan : IsPlan plan) (old new : Run) (keeps : RunKeeps plan old) (s : ℕ) (is_site : s < site_count plan) (goes_on : (thread_of old s).doing ≡ GoesOn) (doing : Doing)
-    (threads : new.threads ≡ slice_set old.threads s (record { doing = doing; bell = (thread_of old s).bell })) (state : LocalState) (is : new.world ≡ slice_set old.world s state) where
+    (threads : new.threads ≡ slice_set old.threads s (record { doing = doing; bell = (thread_of old s).bell })) (state : LocalState) (is : new.world ≡ slice_set old.world s state) (as_open : new.is_open ≡ old.is_open) where
   abbrev actor : Thread
   actor = record { doing = doing; bell = (thread_of old s).bell }
 
@@ -97,7 +97,7 @@ module _ (plan : SeenPlan) (is_plan : IsPlan plan) (old new : Run) (keeps : RunK
       (sym (thread_elsewhere old new s actor threads (neighbour_at plan s i) (neighbour_differs plan s i (placed plan s i is_plan within))))
 
   -- the site itself, which took nothing
-  module _ (same_taken : (j : ℕ) → (traffic_at state j).taken ≡ (traffic_at (state_of old.world s) j).taken) (silent : places_heard doing ≡ []) (fits : (rung_for : List Coming) → Fits plan s (state_of new.world s) rung_for doing) where
+  module _ (same_taken : (j : ℕ) → (traffic_at state j).taken ≡ (traffic_at (state_of old.world s) j).taken) (silent : places_heard doing ≡ []) (fits : (rung_for : List Coming) → Fits plan new.is_open s (state_of new.world s) rung_for doing) where
     link_here : (i : ℕ) (rung_for : List Coming) → i < length (edges_of plan s) → InLink plan old s i rung_for → InLink plan new s i rung_for
     link_here i rung_for within = link_stays plan old new s i rung_for
         (queue_here plan is_plan old.world new.world s state is has_state i within ∙ ap (λ (letters : List Letter). drop (length letters) (put_to plan old.world s i)) (same_taken i))
@@ -110,17 +110,17 @@ module _ (plan : SeenPlan) (is_plan : IsPlan plan) (old new : Run) (keeps : RunK
       numbers = keeps_here.numbers ∙ ap (λ (d : Doing). places_heard d ++ (thread_of old s).bell) goes_on ∙ ap (λ (numbers : List ℕ). numbers ++ (thread_of old s).bell) (sym silent)
           ∙ ap rings_left (sym (thread_here old new s actor threads has_thread));
       links = λ i within. link_here i keeps_here.rung_for within (keeps_here.links i within);
-      fits = subst (λ (thread : Thread). Fits plan s (state_of new.world s) keeps_here.rung_for thread.doing) (sym (thread_here old new s actor threads has_thread)) (fits keeps_here.rung_for);
+      fits = subst (λ (thread : Thread). Fits plan new.is_open s (state_of new.world s) keeps_here.rung_for thread.doing) (sym (thread_here old new s actor threads has_thread)) (fits keeps_here.rung_for);
     }
 
   -- another site, whose links stay or get the letter
   pub onlooker_keeps : (t : ℕ) → t < site_count plan → t ≢ s → ((i : ℕ) (rung_for : List Coming) → i < length (edges_of plan t) → InLink plan old t i rung_for → InLink plan new t i rung_for) → KeepsBell plan new t
-  onlooker_keeps t is_t other links = site_stays plan old new t (thread_elsewhere old new s actor threads t other) (state_elsewhere plan is_plan old.world new.world s state is has_state t other) links (keeps.sites t is_t)
+  onlooker_keeps t is_t other links = site_stays plan old new t (thread_elsewhere old new s actor threads t other) (state_elsewhere plan is_plan old.world new.world s state is has_state t other) as_open links (keeps.sites t is_t)
 
   -- the site put no letter
   pub keeps_alone : state.traffic ≡ (state_of old.world s).traffic → doing ≡ GoesOn → (t : ℕ) → t < site_count plan → KeepsBell plan new t
   keeps_alone same on = each_site plan new s
-      (actor_keeps (λ j. ap (λ (traffic : List Traffic). (get_or traffic j no_traffic).taken) same) (ap places_heard on) (λ rung_for. subst (Fits plan s (state_of new.world s) rung_for) (sym on) tt))
+      (actor_keeps (λ j. ap (λ (traffic : List Traffic). (get_or traffic j no_traffic).taken) same) (ap places_heard on) (λ rung_for. subst (Fits plan new.is_open s (state_of new.world s) rung_for) (sym on) tt))
       (λ t is_t other. onlooker_keeps t is_t other (λ i rung_for within. link_stays plan old new t i rung_for
       (queue_stays plan is_plan old.world new.world s state is has_state t i other (λ from. ap (λ (traffic : List Traffic). (get_or traffic (place_of plan s (edge_at plan t i)) no_traffic).put) same))
       (quiet_change old new s actor threads GoesOn goes_on has_thread (λ place letters none. subst (λ (d : Doing). IsUnrung d place letters) (sym on) none) (neighbour_at plan t i) (place_of plan (neighbour_at plan t i) (edge_at plan t i)))))
@@ -186,19 +186,19 @@ module _ (plan : SeenPlan) (is_plan : IsPlan plan) (old new : Run) (keeps : RunK
 
     pub keeps_letter : (t : ℕ) → t < site_count plan → KeepsBell plan new t
     keeps_letter = each_site plan new s
-        (actor_keeps (λ j. ap (λ (x : LocalState). (traffic_at x j).taken) puts ∙ put_keeps_taken (state_of old.world s) i j l) (ap places_heard rings) (λ rung_for. subst (Fits plan s (state_of new.world s) rung_for) (sym rings) place_within))
+        (actor_keeps (λ j. ap (λ (x : LocalState). (traffic_at x j).taken) puts ∙ put_keeps_taken (state_of old.world s) i j l) (ap places_heard rings) (λ rung_for. subst (Fits plan new.is_open s (state_of new.world s) rung_for) (sym rings) place_within))
         (λ t is_t other. onlooker_keeps t is_t other (λ j rung_for of_t. link_on t j is_t other rung_for of_t))
 
 -- by what the thread is at afterwards
 keeps_as : (plan : SeenPlan) (is_plan : IsPlan plan) (old new : Run) (keeps : RunKeeps plan old) (s : ℕ) → s < site_count plan → (thread_of old s).doing ≡ GoesOn → (doing : Doing)
-    → new.threads ≡ slice_set old.threads s (record { doing = doing; bell = (thread_of old s).bell }) → (state : LocalState) → new.world ≡ slice_set old.world s state → PutsAs doing (state_of old.world s) state
+    → new.threads ≡ slice_set old.threads s (record { doing = doing; bell = (thread_of old s).bell }) → (state : LocalState) → new.world ≡ slice_set old.world s state → new.is_open ≡ old.is_open → PutsAs doing (state_of old.world s) state
     → (t : ℕ) → t < site_count plan → KeepsBell plan new t
-keeps_as plan is_plan old new keeps s is_site goes_on GoesOn threads state is puts = keeps_alone plan is_plan old new keeps s is_site goes_on GoesOn threads state is puts refl
-keeps_as plan is_plan old new keeps s is_site goes_on (HasToRing i kind) threads state is puts = keeps_letter plan is_plan old new keeps s is_site goes_on (HasToRing i kind) threads state is i kind puts.0 puts.1 puts.2 puts.3 refl
-keeps_as plan is_plan old new keeps s is_site goes_on (HasToWake i) threads state is puts = absurd puts
-keeps_as plan is_plan old new keeps s is_site goes_on (IsToBeWoken i) threads state is puts = absurd puts
-keeps_as plan is_plan old new keeps s is_site goes_on (HasToTake i) threads state is puts = absurd puts
-keeps_as plan is_plan old new keeps s is_site goes_on (Sleeps wants) threads state is puts = absurd puts
+keeps_as plan is_plan old new keeps s is_site goes_on GoesOn threads state is as_open puts = keeps_alone plan is_plan old new keeps s is_site goes_on GoesOn threads state is as_open puts refl
+keeps_as plan is_plan old new keeps s is_site goes_on (HasToRing i kind) threads state is as_open puts = keeps_letter plan is_plan old new keeps s is_site goes_on (HasToRing i kind) threads state is as_open i kind puts.0 puts.1 puts.2 puts.3 refl
+keeps_as plan is_plan old new keeps s is_site goes_on (HasToWake i) threads state is as_open puts = absurd puts
+keeps_as plan is_plan old new keeps s is_site goes_on (IsToBeWoken i) threads state is as_open puts = absurd puts
+keeps_as plan is_plan old new keeps s is_site goes_on (HasToTake i) threads state is as_open puts = absurd puts
+keeps_as plan is_plan old new keeps s is_site goes_on (Sleeps wants) threads state is as_open puts = absurd puts
 
 pub keeps_acted : (plan : SeenPlan) (is_plan : IsPlan plan) (old new : Run) (keeps : RunKeeps plan old) (s : ℕ) → s < site_count plan → Acts plan s old new → RunKeeps plan new
 keeps_acted plan is_plan old new keeps s is_site a =
@@ -211,6 +211,6 @@ keeps_acted plan is_plan old new keeps s is_site a =
       reached = events_then plan (start plan) old.world new.world keeps.events e keeps.reached a.world;
       threads = as_many old new s (record { doing = doing_after a.kind; bell = (thread_of old s).bell }) a.threads ∙ keeps.threads;
       waking = waking_stays old new s (record { doing = doing_after a.kind; bell = (thread_of old s).bell }) a.threads plan GoesOn a.goes_on tt (plain_after a.kind) (omega (arith, keeps.threads)) keeps.waking;
-      sites = keeps_as plan is_plan old new keeps s is_site a.goes_on (doing_after a.kind) a.threads (after plan s state w.step) w.changes
+      sites = keeps_as plan is_plan old new keeps s is_site a.goes_on (doing_after a.kind) a.threads (after plan s state w.step) w.changes a.as_open
           (puts_as plan s state (meal_fails plan s state) (next_letter plan old.world s) a.kind w.step own w.step_is w.needs);
     }

@@ -1,6 +1,6 @@
 -- What every run keeps: each letter in a link was rung for, or its sender has yet to ring; and a site that sleeps waits
 -- for no letter that was rung for.
-use Rattle.std.proofs.Common.{◌≡◌, ◌≢◌, ◌⊎◌, ℕ, zero, suc, ◌<◌, true, false, List, [], ◌∷◌, ◌++◌, length, map, drop, replicate, get_or, slice_set, None, refl, sym, ◌∙◌, ap, subst, inl, inr, arith}
+use Rattle.std.proofs.Common.{◌≡◌, ◌≢◌, ◌⊎◌, ℕ, zero, suc, ◌<◌, Bool, true, false, List, [], ◌∷◌, ◌++◌, length, map, drop, replicate, get_or, slice_set, None, refl, sym, ◌∙◌, ap, subst, inl, inr, arith}
 use Rattle.std.proofs.lemmas.Bool.{cases_eq}
 use Rattle.std.proofs.lemmas.List.{append_assoc, get_or-set_same, get_or-set_other, length-replicate, length-set}
 use Rattle.dine_graph.specs.Plan.{SeenPlan, IsPlan, site_count, edges_of}
@@ -20,7 +20,7 @@ use Rattle.dine_site.specs.CoreWants.{can_put_off_by_lists, wants_by_lists}
 use Rattle.dine_site.specs.NextEvent.{next_event}
 use Rattle.dine_site.specs.Standing.{has_finished}
 use Rattle.dine_waking.specs.Sleeping.{ArePlacesBelow, ComeUnwanted, Coming, letters_coming_at}
-use Rattle.dine_waking.specs.Runs.{Doing, FallsAsleep, GoesOn, HearsRing, HasToRing, Run, Sleeps, HasToTake, TakesLetter, Thread, HasToWake, IsToBeWoken, fresh_thread, places_heard, rings_for, rings_left, start_run, thread_of}
+use Rattle.dine_waking.specs.Runs.{Doing, FallsAsleep, GoesOn, HearsRing, HasToRing, IsCalled, MaySleepBefore, Run, Sleeps, HasToTake, TakesLetter, Thread, HasToWake, IsToBeWoken, first_moment, fresh_thread, places_heard, rings_for, rings_left, thread_of}
 use Rattle.dine_waking.proofs.Letters.{first_at, first_elsewhere}
 use Rattle.dine_waking.proofs.PutOff.{AreUnwantedRequests, IsCut, cut_at, letters_moved, numbers_moved, only_one_first, only_requests, place_below, places_moved, places_of, request_unwanted, requests_come}
 use Rattle.dine_waking.proofs.Queues.{IsTaken, take_at, takes_first}
@@ -40,12 +40,12 @@ pub record InLink (plan : SeenPlan) (run : Run) (s i : ℕ) (rung_for : List Com
   pub unrung : IsUnrung (thread_of run (neighbour_at plan s i)).doing (place_of plan (neighbour_at plan s i) (edge_at plan s i)) left
 
 -- what a thread is at fits its site: it rings at one of its places; and while it sleeps, the letters came unwanted
-abbrev pub Fits : SeenPlan → ℕ → LocalState → List Coming → Doing → Type 0
-Fits plan s state rung_for (HasToRing i kind) = i < length (edges_of plan s)
-Fits plan s state rung_for (HasToWake i) = i < length (edges_of plan s)
-Fits plan s state rung_for (IsToBeWoken i) = i < length (edges_of plan s)
-Fits plan s state rung_for (Sleeps wants) = (next_event plan s state ≡ None) × (has_finished plan s state ≡ false) × ComeUnwanted (wants_by_lists plan s state) rung_for wants
-Fits plan s state rung_for doing = Unit {0}
+abbrev pub Fits : SeenPlan → Bool → ℕ → LocalState → List Coming → Doing → Type 0
+Fits plan is_open s state rung_for (HasToRing i kind) = i < length (edges_of plan s)
+Fits plan is_open s state rung_for (HasToWake i) = i < length (edges_of plan s)
+Fits plan is_open s state rung_for (IsToBeWoken i) = i < length (edges_of plan s)
+Fits plan is_open s state rung_for (Sleeps wants) = MaySleepBefore is_open (next_event plan s state) × (has_finished plan s state ≡ false) × ComeUnwanted (wants_by_lists plan s state) rung_for wants
+Fits plan is_open s state rung_for doing = Unit {0}
 
 -- the letters that were rung for and not taken, in the order of the rings
 pub record KeepsBell (plan : SeenPlan) (run : Run) (s : ℕ) : Type 0 where
@@ -53,7 +53,7 @@ pub record KeepsBell (plan : SeenPlan) (run : Run) (s : ℕ) : Type 0 where
   pub places : ArePlacesBelow (length (edges_of plan s)) rung_for
   pub numbers : map (λ (one : Coming). one.place) rung_for ≡ rings_left (thread_of run s)
   pub links : (i : ℕ) → i < length (edges_of plan s) → InLink plan run s i rung_for
-  pub fits : Fits plan s (state_of run.world s) rung_for (thread_of run s).doing
+  pub fits : Fits plan run.is_open s (state_of run.world s) rung_for (thread_of run s).doing
 
 -- One end of an edge, at this place, has yet to wake the other end, exactly if the other end is woken from its place.
 pub record IsWaking (mine other : Doing) (place other_place : ℕ) : Type 0 where
@@ -113,8 +113,8 @@ fresh_all zero s = refl
 fresh_all (suc n) zero = refl
 fresh_all (suc n) (suc s) = fresh_all n s
 
-module _ (plan : SeenPlan) (is_plan : IsPlan plan) where
-  start_fresh : (s : ℕ) → thread_of (start_run plan) s ≡ fresh_thread
+module _ (plan : SeenPlan) (is_plan : IsPlan plan) (is_open : Bool) where
+  pub start_fresh : (s : ℕ) → thread_of (first_moment is_open plan) s ≡ fresh_thread
   start_fresh s = fresh_all (site_count plan) s
 
   start_traffic : (s i : ℕ) → s < site_count plan → traffic_at (state_of (start plan) s) i ≡ no_traffic
@@ -127,7 +127,7 @@ module _ (plan : SeenPlan) (is_plan : IsPlan plan) where
       ap (λ (traffic : Traffic). drop (length traffic.taken) (put_to plan (start plan) s i)) (start_traffic s i is_site)
       ∙ ap (λ (traffic : Traffic). drop 0 traffic.put) (start_traffic there place (across plan s i is_plan within).is_site)
 
-  start_bell : (s : ℕ) → s < site_count plan → KeepsBell plan (start_run plan) s
+  start_bell : (s : ℕ) → s < site_count plan → KeepsBell plan (first_moment is_open plan) s
   start_bell s is_site = record {
     rung_for = [];
     places = tt;
@@ -137,17 +137,17 @@ module _ (plan : SeenPlan) (is_plan : IsPlan plan) where
       queue = start_link s i is_site within;
       unrung = subst (λ (thread : Thread). IsUnrung thread.doing (place_of plan (neighbour_at plan s i) (edge_at plan s i)) []) (sym (start_fresh (neighbour_at plan s i))) refl;
     };
-    fits = subst (λ (thread : Thread). Fits plan s (state_of (start plan) s) [] thread.doing) (sym (start_fresh s)) tt;
+    fits = subst (λ (thread : Thread). Fits plan is_open s (state_of (start plan) s) [] thread.doing) (sym (start_fresh s)) tt;
   }
 
-  pub start_keeps : RunKeeps plan (start_run plan)
+  pub start_keeps : RunKeeps plan (first_moment is_open plan)
   start_keeps = record {
     events = [];
     reached = refl;
     threads = length-replicate (site_count plan) fresh_thread;
     sites = start_bell;
     waking = λ s i is_site within.
-        plain_waking (thread_of (start_run plan) s).doing (thread_of (start_run plan) (neighbour_at plan s i)).doing i (place_of plan (neighbour_at plan s i) (edge_at plan s i))
+        plain_waking (thread_of (first_moment is_open plan) s).doing (thread_of (first_moment is_open plan) (neighbour_at plan s i)).doing i (place_of plan (neighbour_at plan s i) (edge_at plan s i))
         (subst (λ (thread : Thread). IsPlain thread.doing) (sym (start_fresh s)) tt) (subst (λ (thread : Thread). IsPlain thread.doing) (sym (start_fresh (neighbour_at plan s i))) tt);
   }
 
@@ -164,13 +164,14 @@ pub link_stays : (plan : SeenPlan) (old new : Run) (s i : ℕ) (rung_for : List 
 link_stays plan old new s i rung_for queue unrung link = record { left = link.left; queue = queue ∙ link.queue; unrung = unrung link.left link.unrung }
 
 pub site_stays : (plan : SeenPlan) (old new : Run) (s : ℕ) → thread_of new s ≡ thread_of old s → state_of new.world s ≡ state_of old.world s
-    → ((i : ℕ) (rung_for : List Coming) → i < length (edges_of plan s) → InLink plan old s i rung_for → InLink plan new s i rung_for) → KeepsBell plan old s → KeepsBell plan new s
-site_stays plan old new s thread state links keeps = record {
+    → new.is_open ≡ old.is_open → ((i : ℕ) (rung_for : List Coming) → i < length (edges_of plan s) → InLink plan old s i rung_for → InLink plan new s i rung_for) → KeepsBell plan old s → KeepsBell plan new s
+site_stays plan old new s thread state as_open links keeps = record {
   rung_for = keeps.rung_for;
   places = keeps.places;
   numbers = keeps.numbers ∙ ap rings_left (sym thread);
   links = λ i within. links i keeps.rung_for within (keeps.links i within);
-  fits = subst (λ (t : Thread). Fits plan s (state_of new.world s) keeps.rung_for t.doing) (sym thread) (subst (λ (x : LocalState). Fits plan s x keeps.rung_for (thread_of old s).doing) (sym state) keeps.fits);
+  fits = subst (λ (t : Thread). Fits plan new.is_open s (state_of new.world s) keeps.rung_for t.doing) (sym thread)
+      (subst (λ (b : Bool). Fits plan b s (state_of new.world s) keeps.rung_for (thread_of old s).doing) (sym as_open) (subst (λ (x : LocalState). Fits plan old.is_open s x keeps.rung_for (thread_of old s).doing) (sym state) keeps.fits));
 }
 
 -- one thread changes
@@ -286,8 +287,8 @@ module _ (plan : SeenPlan) (is_plan : IsPlan plan) (old new : Run) (keeps : RunK
         places = places_moved (length (edges_of plan s)) cut.one cut.behind cut.before (subst (ArePlacesBelow (length (edges_of plan s))) cut.is keeps_here.places);
         numbers = numbers_moved h.front h.rest h.i cut.before cut.one cut.behind cut.front_is cut.here cut.rest_is ∙ ap rings_left (sym (thread_here old new s hearer h.threads has_thread));
         links = λ i within. moved_link i (heard_link s i keeps_here.rung_for within (keeps_here.links i within));
-        fits = subst (λ (thread : Thread). Fits plan s (state_of new.world s) moved thread.doing) (sym (thread_here old new s hearer h.threads has_thread)) tt;
-      }) (λ t is_t other. site_stays plan old new t (thread_elsewhere old new s hearer h.threads t other) (ap (λ (world : WorldState). state_of world t) h.world) (heard_link t) (keeps.sites t is_t));
+        fits = subst (λ (thread : Thread). Fits plan new.is_open s (state_of new.world s) moved thread.doing) (sym (thread_here old new s hearer h.threads has_thread)) tt;
+      }) (λ t is_t other. site_stays plan old new t (thread_elsewhere old new s hearer h.threads t other) (ap (λ (world : WorldState). state_of world t) h.world) h.as_open (heard_link t) (keeps.sites t is_t));
     }
 
   -- ---- a site falls asleep
@@ -329,9 +330,9 @@ module _ (plan : SeenPlan) (is_plan : IsPlan plan) (old new : Run) (keeps : RunK
           each_left (front ++ one ∷ []) coming (is ∙ sym (append_assoc front (one ∷ []) coming)),
         )
 
-    asleep_fits : Fits plan s (state_of new.world s) keeps_here.rung_for sleeper.doing
+    asleep_fits : Fits plan new.is_open s (state_of new.world s) keeps_here.rung_for sleeper.doing
     asleep_fits = (
-      ap (λ (world : WorldState). next_event plan s (state_of world s)) h.world ∙ h.idle,
+      subst (λ (b : Bool). MaySleepBefore b (next_event plan s (state_of new.world s))) (sym h.as_open) (subst (λ (world : WorldState). MaySleepBefore old.is_open (next_event plan s (state_of world s))) (sym h.world) h.idle),
       ap (λ (world : WorldState). has_finished plan s (state_of world s)) h.world ∙ h.unfinished,
       subst (λ (world : WorldState). ComeUnwanted (wants_by_lists plan s (state_of world s)) keeps_here.rung_for (wants_by_lists plan s (state_of old.world s))) (sym h.world)
           (requests_come (wants_by_lists plan s (state_of old.world s)) keeps_here.rung_for (each_left [] keeps_here.rung_for refl)),
@@ -348,8 +349,36 @@ module _ (plan : SeenPlan) (is_plan : IsPlan plan) (old new : Run) (keeps : RunK
         places = keeps_here.places;
         numbers = left_are ∙ ap rings_left (sym (thread_here old new s sleeper h.threads has_thread));
         links = λ i within. asleep_link s i keeps_here.rung_for within (keeps_here.links i within);
-        fits = subst (λ (thread : Thread). Fits plan s (state_of new.world s) keeps_here.rung_for thread.doing) (sym (thread_here old new s sleeper h.threads has_thread)) asleep_fits;
-      }) (λ t is_t other. site_stays plan old new t (thread_elsewhere old new s sleeper h.threads t other) (ap (λ (world : WorldState). state_of world t) h.world) (asleep_link t) (keeps.sites t is_t));
+        fits = subst (λ (thread : Thread). Fits plan new.is_open s (state_of new.world s) keeps_here.rung_for thread.doing) (sym (thread_here old new s sleeper h.threads has_thread)) asleep_fits;
+      }) (λ t is_t other. site_stays plan old new t (thread_elsewhere old new s sleeper h.threads t other) (ap (λ (world : WorldState). state_of world t) h.world) h.as_open (asleep_link t) (keeps.sites t is_t));
+    }
+
+  -- ---- a site that sleeps is called
+
+  module _ (h : IsCalled plan s old new) where
+    abbrev awake : Thread
+    awake = record { doing = GoesOn; bell = (thread_of old s).bell }
+
+    called_quiet : KeepsUnrung old new
+    called_quiet = quiet_change old new s awake h.threads (Sleeps h.wants) h.sleeps has_thread (λ place letters none. none)
+
+    called_link : (t i : ℕ) (rung_for : List Coming) → i < length (edges_of plan t) → InLink plan old t i rung_for → InLink plan new t i rung_for
+    called_link t i rung_for within = link_stays plan old new t i rung_for (ap (λ (world : WorldState). queue_to plan world t i) h.world)
+        (called_quiet (neighbour_at plan t i) (place_of plan (neighbour_at plan t i) (edge_at plan t i)))
+
+    pub keeps_called : RunKeeps plan new
+    keeps_called = record {
+      events = keeps.events;
+      reached = subst (Reaches plan keeps.events) (sym h.world) keeps.reached;
+      threads = as_many old new s awake h.threads ∙ keeps.threads;
+      waking = waking_stays old new s awake h.threads plan (Sleeps h.wants) h.sleeps tt tt has_thread keeps.waking;
+      sites = each_site plan new s (record {
+        rung_for = keeps_here.rung_for;
+        places = keeps_here.places;
+        numbers = keeps_here.numbers ∙ ap (λ (d : Doing). places_heard d ++ (thread_of old s).bell) h.sleeps ∙ ap rings_left (sym (thread_here old new s awake h.threads has_thread));
+        links = λ i within. called_link s i keeps_here.rung_for within (keeps_here.links i within);
+        fits = subst (λ (thread : Thread). Fits plan new.is_open s (state_of new.world s) keeps_here.rung_for thread.doing) (sym (thread_here old new s awake h.threads has_thread)) tt;
+      }) (λ t is_t other. site_stays plan old new t (thread_elsewhere old new s awake h.threads t other) (ap (λ (world : WorldState). state_of world t) h.world) h.as_open (called_link t) (keeps.sites t is_t));
     }
 
   -- ---- a letter is taken
@@ -416,8 +445,8 @@ module _ (plan : SeenPlan) (is_plan : IsPlan plan) (old new : Run) (keeps : RunK
           places = places_are.1;
           numbers = others ∙ ap rings_left (sym (thread_here old new s taker h.threads has_thread));
           links = links_here;
-          fits = subst (λ (thread : Thread). Fits plan s (state_of new.world s) coming thread.doing) (sym (thread_here old new s taker h.threads has_thread)) tt;
-        }) (λ t is_t other. site_stays plan old new t (thread_elsewhere old new s taker h.threads t other) (taken.others t other)
+          fits = subst (λ (thread : Thread). Fits plan new.is_open s (state_of new.world s) coming thread.doing) (sym (thread_here old new s taker h.threads has_thread)) tt;
+        }) (λ t is_t other. site_stays plan old new t (thread_elsewhere old new s taker h.threads t other) (taken.others t other) h.as_open
             (λ i rung_for within. link_stays plan old new t i rung_for (taken.queues_away t i other) (taken_quiet (neighbour_at plan t i) (place_of plan (neighbour_at plan t i) (edge_at plan t i)))) (keeps.sites t is_t));
       }
 

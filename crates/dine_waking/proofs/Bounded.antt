@@ -1,5 +1,6 @@
 -- The number of steps of a run.
-use Rattle.std.proofs.Common.{◌≡◌, ℕ, zero, suc, ◌+◌, ◌*◌, ◌<◌, ◌≤◌, ◌||◌, Bool, true, false, List, [], ◌∷◌, ◌++◌, length, replicate, get_or, slice_set, sum_by, Some, refl, sym, ap, subst, inl, inr, arith, length-append, if◌then◌else◌}
+use Rattle.std.proofs.Common.{◌≡◌, ℕ, zero, suc, ◌+◌, ◌*◌, ◌<◌, ◌≤◌, ◌||◌, Bool, true, false, List, [], ◌∷◌, ◌++◌, length, replicate, get_or, slice_set, sum_by, Some, refl, sym, ◌∙◌, ap, subst, inl, inr, arith, length-append, if◌then◌else◌}
+use Rattle.std.proofs.lemmas.Bool.{true≢false}
 use Rattle.std.proofs.lemmas.List.{get_or-set_other, length-set}
 use Rattle.std.proofs.lemmas.List.Sums.{sum_by-cons, sum_by-set}
 use Rattle.dine_graph.specs.Plan.{SeenPlan, IsPlan, site_count, edges_of}
@@ -17,9 +18,9 @@ use Rattle.dine_rules.proofs.shared.links.Across.{across}
 use Rattle.dine_rules.proofs.shared.links.WorldStreams.{events_then, neighbour_differs}
 use Rattle.dine_rules.proofs.shared.one_place.Placed.{placed}
 use Rattle.dine_site.specs.CoreWants.{wants_by_lists}
-use Rattle.dine_waking.specs.Runs.{Acts, ByActing, ByHearing, ByRinging, BySleeping, ByTaking, ByWaking, Doing, FallsAsleep, GoesOn, RunHasEnded, HearsRing, LeadsBySteps, HasToRing, RingsBell, Run, RunStep, Sleeps, HasToTake, TakesLetter, Thread, ThreadStep, HasToWake, WakesThread, IsToBeWoken, after_ringing, doing_after, doing_rung, fresh_thread, is_woken_by, thread_after_ring, start_run, thread_of}
+use Rattle.dine_waking.specs.Runs.{Acts, ByActing, ByDoorbell, ByHearing, ByRinging, BySleeping, ByTaking, ByWaking, Doing, FallsAsleep, GoesOn, RunHasEnded, HearsRing, LeadsBySteps, HasToRing, RingsBell, Run, RunStep, Sleeps, HasToTake, TakesLetter, Thread, ThreadStep, HasToWake, WakesThread, IsToBeWoken, after_ringing, doing_after, doing_rung, first_moment, fresh_thread, is_woken_by, thread_after_ring, start_run, thread_of}
 use Rattle.dine_waking.proofs.Queues.{take_at}
-use Rattle.dine_waking.proofs.Bells.{Fits, KeepsBell, RunKeeps, keeps_asleep, keeps_heard, keeps_taken, start_keeps}
+use Rattle.dine_waking.proofs.Bells.{Fits, KeepsBell, RunKeeps, keeps_asleep, keeps_called, keeps_heard, keeps_taken, start_keeps}
 use Rattle.dine_waking.proofs.Acting.{keeps_acted}
 use Rattle.dine_waking.proofs.Waking.{keeps_rung, keeps_woken}
 use Rattle.dine_waking.proofs.Progress.{step_or_end}
@@ -109,7 +110,7 @@ module _ (plan : SeenPlan) (is_plan : IsPlan plan) (old new : Run) (keeps : RunK
   rung_counts : RingsBell plan s old new → Counts
   rung_counts r =
       let keeps_here : KeepsBell plan old s = keeps.sites s is_site in
-      let within : r.i < length (edges_of plan s) = subst (λ (d : Doing). Fits plan s (state_of old.world s) keeps_here.rung_for d) r.rings keeps_here.fits in
+      let within : r.i < length (edges_of plan s) = subst (λ (d : Doing). Fits plan old.is_open s (state_of old.world s) keeps_here.rung_for d) r.rings keeps_here.fits in
       let there : ℕ = neighbour_at plan s r.i in
       let number : ℕ = place_of plan (neighbour_at plan s r.i) (edge_at plan s r.i) in
       let ringer : Thread = record { doing = after_ringing (is_woken_by r.anyway number r.kind (thread_of old there).doing) r.i; bell = (thread_of old s).bell } in
@@ -131,7 +132,7 @@ module _ (plan : SeenPlan) (is_plan : IsPlan plan) (old new : Run) (keeps : RunK
   woken_counts : WakesThread plan s old new → Counts
   woken_counts h =
       let keeps_here : KeepsBell plan old s = keeps.sites s is_site in
-      let within : h.i < length (edges_of plan s) = subst (λ (d : Doing). Fits plan s (state_of old.world s) keeps_here.rung_for d) h.wakes keeps_here.fits in
+      let within : h.i < length (edges_of plan s) = subst (λ (d : Doing). Fits plan old.is_open s (state_of old.world s) keeps_here.rung_for d) h.wakes keeps_here.fits in
       let there : ℕ = neighbour_at plan s h.i in
       let waker : Thread = record { doing = GoesOn; bell = (thread_of old s).bell } in
       let between : List Thread = slice_set old.threads s waker in
@@ -149,13 +150,24 @@ module _ (plan : SeenPlan) (is_plan : IsPlan plan) (old new : Run) (keeps : RunK
         ap weight h.wakes,
       )
 
-  step_counts : ThreadStep plan s old new → Counts
-  step_counts (ByActing a) = acted_counts a
-  step_counts (ByRinging r) = rung_counts r
-  step_counts (ByWaking h) = woken_counts h
-  step_counts (ByHearing h) = heard_counts h
-  step_counts (ByTaking t) = taken_counts t
-  step_counts (BySleeping h) = asleep_counts h
+  -- if the run is not open
+  step_counts : old.is_open ≡ false → ThreadStep plan s old new → Counts
+  step_counts shut (ByActing a) = acted_counts a
+  step_counts shut (ByRinging r) = rung_counts r
+  step_counts shut (ByWaking h) = woken_counts h
+  step_counts shut (ByHearing h) = heard_counts h
+  step_counts shut (ByTaking t) = taken_counts t
+  step_counts shut (BySleeping h) = asleep_counts h
+  step_counts shut (ByDoorbell d) = absurd (true≢false (sym d.is_open ∙ shut))
+
+  pub step_opens : ThreadStep plan s old new → new.is_open ≡ old.is_open
+  step_opens (ByActing a) = a.as_open
+  step_opens (ByRinging r) = r.as_open
+  step_opens (ByWaking h) = h.as_open
+  step_opens (ByHearing h) = h.as_open
+  step_opens (ByTaking t) = t.as_open
+  step_opens (BySleeping h) = h.as_open
+  step_opens (ByDoorbell d) = d.as_open
 
   pub step_keeps : ThreadStep plan s old new → RunKeeps plan new
   step_keeps (ByActing a) = keeps_acted plan is_plan old new keeps s is_site a
@@ -164,6 +176,7 @@ module _ (plan : SeenPlan) (is_plan : IsPlan plan) (old new : Run) (keeps : RunK
   step_keeps (ByHearing h) = keeps_heard plan is_plan old new keeps s is_site h
   step_keeps (ByTaking t) = keeps_taken plan is_plan old new keeps s is_site t
   step_keeps (BySleeping h) = keeps_asleep plan is_plan old new keeps s is_site h
+  step_keeps (ByDoorbell d) = keeps_called plan is_plan old new keeps s is_site d
 
 -- ---- runs
 
@@ -182,23 +195,31 @@ module _ (plan : SeenPlan) (is_plan : IsPlan plan) where
   steps_keep zero old new keeps same = subst (RunKeeps plan) same keeps
   steps_keep (suc n) old new keeps w = steps_keep n w.0 new (step_keeps plan is_plan old w.0 keeps w.1.site w.1.is_site w.1.step) w.2
 
-  steps_count : (n : ℕ) (old new : Run) → RunKeeps plan old → LeadsBySteps plan n old new → n + weights new.threads + 4 * effects_of old.world ≤ weights old.threads + 4 * effects_of new.world
-  steps_count zero old new keeps same = subst (λ (run : Run). 0 + weights run.threads + 4 * effects_of old.world ≤ weights old.threads + 4 * effects_of run.world) same (omega arith)
-  steps_count (suc n) old new keeps w = omega (
+  pub steps_open : (n : ℕ) (old new : Run) → RunKeeps plan old → LeadsBySteps plan n old new → new.is_open ≡ old.is_open
+  steps_open zero old new keeps same = ap (λ (run : Run). run.is_open) (sym same)
+  steps_open (suc n) old new keeps w = steps_open n w.0 new (step_keeps plan is_plan old w.0 keeps w.1.site w.1.is_site w.1.step) w.2
+      ∙ step_opens plan is_plan old w.0 keeps w.1.site w.1.is_site w.1.step
+
+  steps_count : (n : ℕ) (old new : Run) → RunKeeps plan old → old.is_open ≡ false → LeadsBySteps plan n old new → n + weights new.threads + 4 * effects_of old.world ≤ weights old.threads + 4 * effects_of new.world
+  steps_count zero old new keeps shut same = subst (λ (run : Run). 0 + weights run.threads + 4 * effects_of old.world ≤ weights old.threads + 4 * effects_of run.world) same (omega arith)
+  steps_count (suc n) old new keeps shut w = omega (
     arith,
-    step_counts plan is_plan old w.0 keeps w.1.site w.1.is_site w.1.step,
-    steps_count n w.0 new (step_keeps plan is_plan old w.0 keeps w.1.site w.1.is_site w.1.step) w.2,
+    step_counts plan is_plan old w.0 keeps w.1.site w.1.is_site shut w.1.step,
+    steps_count n w.0 new (step_keeps plan is_plan old w.0 keeps w.1.site w.1.is_site w.1.step) (step_opens plan is_plan old w.0 keeps w.1.site w.1.is_site w.1.step ∙ shut) w.2,
   )
 
-  pub reached_keeps : (n : ℕ) (run : Run) → LeadsBySteps plan n (start_run plan) run → RunKeeps plan run
-  reached_keeps n run leads = steps_keep n (start_run plan) run (start_keeps plan is_plan) leads
+  pub reached_keeps : (is_open : Bool) (n : ℕ) (run : Run) → LeadsBySteps plan n (first_moment is_open plan) run → RunKeeps plan run
+  reached_keeps is_open n run leads = steps_keep n (first_moment is_open plan) run (start_keeps plan is_plan is_open) leads
+
+  pub reached_open : (is_open : Bool) (n : ℕ) (run : Run) → LeadsBySteps plan n (first_moment is_open plan) run → run.is_open ≡ is_open
+  reached_open is_open n run leads = steps_open n (first_moment is_open plan) run (start_keeps plan is_plan is_open) leads
 
   pub steps_bounded : (n : ℕ) (run : Run) → LeadsBySteps plan n (start_run plan) run → n ≤ 4 * bound_of plan + site_count plan
   steps_bounded n run leads =
-      let keeps : RunKeeps plan run = reached_keeps n run leads in
+      let keeps : RunKeeps plan run = reached_keeps false n run leads in
       omega (
         arith,
-        steps_count n (start_run plan) run (start_keeps plan is_plan) leads,
+        steps_count n (start_run plan) run (start_keeps plan is_plan false) refl leads,
         fresh_weights (site_count plan),
         events_counted plan keeps.events run.world is_plan keeps.reached,
         events_bounded plan keeps.events run.world is_plan keeps.reached,
@@ -212,11 +233,11 @@ module _ (plan : SeenPlan) (is_plan : IsPlan plan) where
     pub ended : RunHasEnded plan end
 
   ends_within : (more n : ℕ) (run : Run) → LeadsBySteps plan n (start_run plan) run → 4 * bound_of plan + site_count plan ≤ n + more → LeadsToEnd run
-  ends_within zero n run leads enough = elim (step_or_end plan is_plan run (reached_keeps n run leads)) [
+  ends_within zero n run leads enough = elim (step_or_end plan is_plan run (reached_keeps false n run leads) (reached_open false n run leads)) [
     | inl w ↦ absurd (omega (arith, steps_bounded (suc n) w.0 (leads_then plan n (start_run plan) run w.0 leads w.1)))
     | inr ended ↦ record { n = 0; end = run; leads = refl; ended = ended }
   ]
-  ends_within (suc more) n run leads enough = elim (step_or_end plan is_plan run (reached_keeps n run leads)) [
+  ends_within (suc more) n run leads enough = elim (step_or_end plan is_plan run (reached_keeps false n run leads) (reached_open false n run leads)) [
     | inl w ↦
         let rest : LeadsToEnd w.0 = ends_within more (suc n) w.0 (leads_then plan n (start_run plan) run w.0 leads w.1) (omega arith) in
         record { n = suc rest.n; end = rest.end; leads = (w.0, w.1, rest.leads); ended = rest.ended }
@@ -227,7 +248,7 @@ module _ (plan : SeenPlan) (is_plan : IsPlan plan) where
   run_ends n run leads = ends_within (4 * bound_of plan + site_count plan) n run leads (omega arith)
 
   pub stuck_has_ended : (n : ℕ) (run : Run) → LeadsBySteps plan n (start_run plan) run → ((new : Run) → RunStep plan run new → ⊥) → RunHasEnded plan run
-  stuck_has_ended n run leads stuck = elim (step_or_end plan is_plan run (reached_keeps n run leads)) [
+  stuck_has_ended n run leads stuck = elim (step_or_end plan is_plan run (reached_keeps false n run leads) (reached_open false n run leads)) [
     | inl w ↦ absurd (stuck w.0 w.1)
     | inr ended ↦ ended
   ]

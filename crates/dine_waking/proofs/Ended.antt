@@ -64,7 +64,7 @@ pub rung_has_not_finished : (plan : SeenPlan) (is_plan : IsPlan plan) (run : Run
     → has_finished plan (neighbour_at plan s i) (state_of run.world (neighbour_at plan s i)) ≡ false
 rung_has_not_finished plan is_plan run keeps s i kind is_site rings =
     let here : KeepsBell plan run s = keeps.sites s is_site in
-    let within : i < length (edges_of plan s) = subst (λ (d : Doing). Fits plan s (state_of run.world s) here.rung_for d) rings here.fits in
+    let within : i < length (edges_of plan s) = subst (λ (d : Doing). Fits plan run.is_open s (state_of run.world s) here.rung_for d) rings here.fits in
     let there : ℕ = neighbour_at plan s i in
     let number : ℕ = place_of plan (neighbour_at plan s i) (edge_at plan s i) in
     let over : IsAcross plan s i there number = across plan s i is_plan within in

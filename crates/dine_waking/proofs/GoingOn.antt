@@ -7,7 +7,7 @@ use Rattle.dine_rules.specs.Bound.{bound_of}
 use Rattle.dine_rules.specs.World.{WorldState, world_after}
 use Rattle.dine_rules.proofs.shared.counting.Listed.{listed}
 use Rattle.dine_rules.proofs.shared.ends_of_runs.Complete.{complete_is_stuck}
-use Rattle.dine_waking.specs.Runs.{ByActing, ByHearing, ByRinging, BySleeping, ByTaking, ByWaking, GoesOn, GoesOnForever, RunHasEnded, IsStuck, LeadsBySteps, HasToRing, Run, RunStep, HasToTake, Thread, ThreadStep, HasToWake, start_run, thread_of}
+use Rattle.dine_waking.specs.Runs.{ByActing, ByDoorbell, ByHearing, ByRinging, BySleeping, ByTaking, ByWaking, GoesOn, GoesOnForever, RunHasEnded, IsStuck, LeadsBySteps, HasToRing, Run, RunStep, Sleeps, HasToTake, Thread, ThreadStep, HasToWake, start_run, thread_of}
 use Rattle.dine_waking.proofs.Bells.{RunKeeps}
 use Rattle.dine_waking.proofs.Bounded.{LeadsToEnd, leads_then, reached_keeps, run_ends, steps_bounded, stuck_has_ended}
 
@@ -34,6 +34,7 @@ module _ (plan : SeenPlan) (is_plan : IsPlan plan) (run : Run) (keeps : RunKeeps
       none_there (j ∷ front) is = let e : [] ≡ j ∷ (front ++ h.i ∷ h.rest) = is in cc
   no_step (ByTaking t) = let e : GoesOn ≡ HasToTake t.i = sym awake ∙ t.takes in cc
   no_step (BySleeping f) = true≢false (sym (ended.finished s is_site) ∙ f.unfinished)
+  no_step (ByDoorbell d) = let e : GoesOn ≡ Sleeps d.wants = sym awake ∙ d.sleeps in cc
 
 pub ended_is_stuck : (plan : SeenPlan) (is_plan : IsPlan plan) (run : Run) (keeps : RunKeeps plan run) → RunHasEnded plan run → IsStuck plan run
 ended_is_stuck plan is_plan run keeps ended new one = no_step plan is_plan run keeps ended new one.site one.is_site one.step
@@ -79,7 +80,7 @@ each_turn plan (suc n) old new w stuck (suc turn) = each_turn plan n w.0 new w.2
 pub some_go_on : (plan : SeenPlan) → IsPlan plan → (moments : ℕ → Run) × GoesOnForever plan moments
 some_go_on plan is_plan =
     let w : LeadsToEnd plan is_plan (start_run plan) = run_ends plan is_plan 0 (start_run plan) refl in
-    let stuck : IsStuck plan w.end = ended_is_stuck plan is_plan w.end (reached_keeps plan is_plan w.n w.end w.leads) w.ended in (
+    let stuck : IsStuck plan w.end = ended_is_stuck plan is_plan w.end (reached_keeps plan is_plan false w.n w.end w.leads) w.ended in (
       moment plan w.n (start_run plan) w.end w.leads,
       record { starts = first_moment plan w.n (start_run plan) w.end w.leads; turns = each_turn plan w.n (start_run plan) w.end w.leads stuck },
     )

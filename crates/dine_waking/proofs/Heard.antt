@@ -19,7 +19,7 @@ use Rattle.dine_site.specs.CoreWants.{can_put_off_by_lists}
 use Rattle.dine_site.specs.NextEvent.{may_by_itself, own_kinds}
 use Rattle.dine_site.specs.Standing.{all_places}
 use Rattle.dine_waking.specs.Manners.{IsInManner, can_all_be_put_off, finds_no_ring, has_checked, checked_after, meals_so_far}
-use Rattle.dine_waking.specs.Runs.{Acts, ByActing, ByHearing, ByRinging, BySleeping, ByTaking, ByWaking, Doing, FallsAsleep, GoesOn, HasToRing, HasToWake, HearsRing, IsToBeWoken, RingsBell, Run, HasToTake, Sleeps, TakesLetter, Thread, ThreadStep, WakesThread, after_ringing, doing_after, doing_rung, fresh_thread, is_woken_by, places_heard, number_there, rings_for, rings_left, thread_after_ring, thread_of}
+use Rattle.dine_waking.specs.Runs.{Acts, ByActing, ByDoorbell, ByHearing, ByRinging, BySleeping, ByTaking, ByWaking, Doing, FallsAsleep, GoesOn, HasToRing, HasToWake, HearsRing, IsCalled, IsToBeWoken, RingsBell, Run, HasToTake, Sleeps, TakesLetter, Thread, ThreadStep, WakesThread, after_ringing, doing_after, doing_rung, fresh_thread, is_woken_by, places_heard, number_there, rings_for, rings_left, thread_after_ring, thread_of}
 use Rattle.dine_waking.proofs.Queues.{put_keeps_taken, state_here, taken_elsewhere, taken_here}
 use Rattle.dine_waking.proofs.Bells.{RunKeeps, thread_elsewhere, thread_here}
 use Rattle.dine_waking.proofs.Acting.{found_passes}
@@ -175,6 +175,7 @@ module _ (plan : SeenPlan) (is_plan : IsPlan plan) (s i : ℕ) (is_site : s < si
     other_step (ByHearing h) = stays (ap (λ (world : WorldState). state_of world s) h.world) (apart (record { doing = HasToTake h.i; bell = h.front ++ h.rest }) h.threads)
     other_step (ByTaking t) = stays (away (event.Take t.i) t.world) (apart (record { doing = GoesOn; bell = (thread_of old x).bell }) t.threads)
     other_step (BySleeping f) = stays (ap (λ (world : WorldState). state_of world s) f.world) (apart _ f.threads)
+    other_step (ByDoorbell d) = stays (ap (λ (world : WorldState). state_of world s) d.world) (apart _ d.threads)
 
   -- ---- the site itself, which has a ring left
 
@@ -241,6 +242,10 @@ module _ (plan : SeenPlan) (is_plan : IsPlan plan) (s i : ℕ) (is_site : s < si
   falls_asleep f = stays (ap (λ (world : WorldState). state_of world s) f.world) (as_many _ (thread_here old new s _ f.threads has_thread)
       (ap (λ (d : Doing). places_heard d ++ (thread_of old s).bell) f.goes_on))
 
+  is_called : IsCalled plan s old new → AtPlace plan s i old new
+  is_called d = stays (ap (λ (world : WorldState). state_of world s) d.world) (as_many _ (thread_here old new s _ d.threads has_thread)
+      (ap (λ (d : Doing). places_heard d ++ (thread_of old s).bell) d.sleeps))
+
   -- whatever its manner: it begins a meal, or not
   pub own_step : (one : ThreadStep plan s old new) → 0 < rings_for i (rings_left (thread_of old s)) → AtPlace plan s i old new ⊎ (Begun plan s i old new × ((checked : ℕ → Bool) → IsInManner plan s checked old new one true → has_checked plan old checked s ≡ true))
   own_step (ByActing a) ringing = elim (acts a) [
@@ -252,6 +257,7 @@ module _ (plan : SeenPlan) (is_plan : IsPlan plan) (s i : ℕ) (is_site : s < si
   own_step (ByHearing h) ringing = inl (hears h)
   own_step (ByTaking t) ringing = inl (takes t)
   own_step (BySleeping f) ringing = inl (falls_asleep f)
+  own_step (ByDoorbell d) ringing = inl (is_called d)
 
 -- ---- checks
 

@@ -10,7 +10,7 @@ use Rattle.dine_rules.specs.World.{state_of}
 use Rattle.dine_site.specs.NextEvent.{may_by_itself, next_event, own_kinds}
 use Rattle.dine_site.specs.Standing.{all_places}
 use Rattle.dine_waking.specs.Manners.{IsInManner, MannerStep, finds_no_ring, has_checked}
-use Rattle.dine_waking.specs.Runs.{Acts, ByActing, ByHearing, ByRinging, BySleeping, ByTaking, ByWaking, Doing, GoesOn, RunHasEnded, HearsRing, Run, HasToTake, ThreadStep, doing_after, takes_letters, thread_of}
+use Rattle.dine_waking.specs.Runs.{Acts, ByActing, ByDoorbell, ByHearing, ByRinging, BySleeping, ByTaking, ByWaking, Doing, GoesOn, RunHasEnded, HearsRing, Run, HasToTake, ThreadStep, doing_after, may_think_on, takes_letters, thread_of}
 use Rattle.dine_waking.proofs.Queues.{event_happens}
 use Rattle.dine_waking.proofs.Bells.{RunKeeps}
 use Rattle.dine_waking.proofs.Acting.{found_passes}
@@ -24,7 +24,14 @@ or_true : (b : Bool) → (b || true) ≡ true
 or_true true = refl
 or_true false = refl
 
-module _ (plan : SeenPlan) (checked : ℕ → Bool) (run : Run) (s : ℕ) (is_site : s < site_count plan) where
+-- who hears a ring in a run that is not open takes letters
+takes_if_shut : (is_open : Bool) (next : Option EventKind) → is_open ≡ false → (takes_letters next || may_think_on is_open next) ≡ true → takes_letters next ≡ true
+takes_if_shut is_open None shut turn = refl
+takes_if_shut is_open (Some event.Begin) shut turn = refl
+takes_if_shut is_open (Some event.Hungry) shut turn = absurd (false≢true (sym shut ∙ turn))
+takes_if_shut is_open (Some kind) shut turn = absurd (false≢true turn)
+
+module _ (plan : SeenPlan) (checked : ℕ → Bool) (run : Run) (shut : run.is_open ≡ false) (s : ℕ) (is_site : s < site_count plan) where
   -- the thread of the site can do a step in this manner
   abbrev CanStep : Bool → Type 0
   CanStep polite = (new : Run) × (one : ThreadStep plan s run new) × IsInManner plan s checked run new one polite
@@ -37,16 +44,17 @@ module _ (plan : SeenPlan) (checked : ℕ → Bool) (run : Run) (s : ℕ) (is_si
   by_bell : (new : Run) (a : Acts plan s run new) → a.kind ≡ event.Begin → (bell : List ℕ) → (thread_of run s).bell ≡ bell → CanStep true
   by_bell new a begins [] silent = (new, ByActing a, λ is. checks a.goes_on silent)
   by_bell new a begins (i ∷ rest) ringing = (
-    record { world = run.world; threads = slice_set run.threads s (record { doing = HasToTake i; bell = rest }) },
+    record run { threads = slice_set run.threads s (record { doing = HasToTake i; bell = rest }) },
     ByHearing (record {
       goes_on = a.goes_on;
-      turn = ap takes_letters a.next ∙ ap (λ (kind : EventKind). takes_letters (Some kind)) begins;
+      turn = ap (λ (o : Option EventKind). takes_letters o || may_think_on run.is_open o) a.next ∙ ap (λ (kind : EventKind). takes_letters (Some kind) || may_think_on run.is_open (Some kind)) begins;
       i = i;
       front = [];
       rest = rest;
       bell = ringing;
       first = refl;
       world = refl;
+      as_open = refl;
       threads = refl;
     }),
     tt,
@@ -57,17 +65,18 @@ module _ (plan : SeenPlan) (checked : ℕ → Bool) (run : Run) (s : ℕ) (is_si
   by_next new h None is = (new, ByHearing h, is)
   by_next new h (Some event.Begin) is =
       let state : LocalState = state_of run.world s in (
-        record { world = _; threads = slice_set run.threads s (record { doing = doing_after event.Begin; bell = (thread_of run s).bell }) },
+        record { world = _; is_open = run.is_open; threads = slice_set run.threads s (record { doing = doing_after event.Begin; bell = (thread_of run s).bell }) },
         ByActing (record {
           goes_on = h.goes_on;
           kind = event.Begin;
           next = is;
           world = event_happens plan run.world s event.Begin step.Begin is_site refl (found_passes (may_by_itself plan s state) (own_kinds (all_places state)) event.Begin is);
+          as_open = refl;
           threads = refl;
         }),
         tt,
       )
-  by_next new h (Some kind) is = absurd (false≢true (sym (ap takes_letters is) ∙ h.turn))
+  by_next new h (Some kind) is = absurd (false≢true (sym (ap takes_letters is) ∙ takes_if_shut run.is_open (next_event plan s (state_of run.world s)) shut h.turn))
 
   in_manner : (polite : Bool) (new : Run) → ThreadStep plan s run new → CanStep polite
   in_manner true new (ByActing a) = elim (begin_or_not a.kind) [
@@ -81,11 +90,12 @@ module _ (plan : SeenPlan) (checked : ℕ → Bool) (run : Run) (s : ℕ) (is_si
   in_manner polite new (ByWaking h) = (new, ByWaking h, tt)
   in_manner polite new (ByTaking t) = (new, ByTaking t, tt)
   in_manner polite new (BySleeping f) = (new, BySleeping f, tt)
+  in_manner polite new (ByDoorbell d) = (new, ByDoorbell d, tt)
 
-pub manner_or_end : (plan : SeenPlan) (is_plan : IsPlan plan) (is_polite checked : ℕ → Bool) (run : Run) → RunKeeps plan run → ((new : Run) × MannerStep plan is_polite checked run new) ⊎ RunHasEnded plan run
-manner_or_end plan is_plan is_polite checked run keeps = elim (step_or_end plan is_plan run keeps) [
+pub manner_or_end : (plan : SeenPlan) (is_plan : IsPlan plan) (is_polite checked : ℕ → Bool) (run : Run) → RunKeeps plan run → run.is_open ≡ false → ((new : Run) × MannerStep plan is_polite checked run new) ⊎ RunHasEnded plan run
+manner_or_end plan is_plan is_polite checked run keeps shut = elim (step_or_end plan is_plan run keeps shut) [
   | inl w ↦
-      let v = in_manner plan checked run w.1.site w.1.is_site (is_polite w.1.site) w.0 w.1.step in
+      let v = in_manner plan checked run shut w.1.site w.1.is_site (is_polite w.1.site) w.0 w.1.step in
       inl (v.0, record { step = record { site = w.1.site; is_site = w.1.is_site; step = v.1 }; in_manner = v.2 })
   | inr ended ↦ inr ended
 ]

@@ -33,3 +33,6 @@ pub mod Waiters
 pub mod PatientWaiting
 pub mod Noting
 pub mod Closed
+pub mod Agreement
+pub mod OpenRuns
+pub mod OpenProgress

@@ -5,7 +5,7 @@ use Rattle.dine_graph.specs.Plan.{SeenPlan, IsPlan, site_count, edges_of}
 use Rattle.dine_rules.specs.Local.{LocalState}
 use Rattle.dine_waking.specs.Manners.{HasRungForAll, HoldsDirtyFork, IsAsked, IsInManner, LeadsInManner, checked_after, forks_given, has_checked, meals_so_far}
 use Rattle.dine_waking.specs.Patience.{IsPatient, LeadsPatiently, PatientStep, skips_after, skips_then}
-use Rattle.dine_waking.specs.Runs.{ByActing, ByHearing, ByRinging, BySleeping, ByTaking, ByWaking, LeadsBySteps, Run, RunStep, ThreadStep, rings_for, rings_left, thread_of}
+use Rattle.dine_waking.specs.Runs.{ByActing, ByDoorbell, ByHearing, ByRinging, BySleeping, ByTaking, ByWaking, LeadsBySteps, Run, RunStep, ThreadStep, rings_for, rings_left, thread_of}
 use Rattle.dine_waking.proofs.Bells.{RunKeeps}
 use Rattle.dine_waking.proofs.Bounded.{step_keeps}
 use Rattle.dine_waking.proofs.Heard.{AtPlace, Begun, other_step, own_check_used, own_step, yet_after, yet_to_check}
@@ -43,6 +43,7 @@ polite_is_patient plan is_polite s checked skips old new (ByWaking h) b polite i
 polite_is_patient plan is_polite s checked skips old new (ByHearing h) b polite in_manner = tt
 polite_is_patient plan is_polite s checked skips old new (ByTaking t) b polite in_manner = tt
 polite_is_patient plan is_polite s checked skips old new (BySleeping f) b polite in_manner = tt
+polite_is_patient plan is_polite s checked skips old new (ByDoorbell d) b polite in_manner = tt
 
 pub in_manner_patiently : (plan : SeenPlan) (is_polite : ℕ → Bool) (n : ℕ) (checked checked_then : ℕ → Bool) (skips : ℕ → ℕ) (old new : Run) → ((t : ℕ) → skips t ≡ 0) → LeadsInManner plan is_polite n checked old checked_then new → LeadsPatiently plan (patience_of is_polite) n checked skips old new
 in_manner_patiently plan is_polite zero checked checked_then skips old new none same = same.1
@@ -76,6 +77,7 @@ module _ (plan : SeenPlan) (is_plan : IsPlan plan) (s i : ℕ) (is_site : s < si
   as_polite checked skips old new (ByHearing h) patient none = tt
   as_polite checked skips old new (ByTaking t) patient none = tt
   as_polite checked skips old new (BySleeping f) patient none = tt
+  as_polite checked skips old new (ByDoorbell d) patient none = tt
 
   -- a Begin of the site
   record BeginsHere (checked : ℕ → Bool) (skips : ℕ → ℕ) (old next : Run) (w : PatientStep plan patience checked skips old next) : Type 0 where

@@ -1,5 +1,5 @@
 -- A run in which no site can do a step has ended.
-use Rattle.std.proofs.Common.{◌≡◌, ◌⊎◌, ℕ, zero, suc, ◌+◌, ◌<◌, Bool, true, false, ◌&&◌, List, [], ◌∷◌, ◌++◌, length, map, slice_set, Option, Some, None, refl, sym, ◌∙◌, ap, ap₂, subst, inl, inr, arith, add-zero, append-nil}
+use Rattle.std.proofs.Common.{◌≡◌, ◌⊎◌, ℕ, zero, suc, ◌+◌, ◌<◌, Bool, true, false, ◌&&◌, ◌||◌, List, [], ◌∷◌, ◌++◌, length, map, slice_set, Option, Some, None, refl, sym, ◌∙◌, ap, ap₂, subst, inl, inr, arith, add-zero, append-nil}
 use Rattle.std.specs.List.{list_all, range_with_len}
 use Rattle.std.proofs.lemmas.Bool.{and_from, false≢true, or_right, true≢false}
 use Rattle.dine_graph.specs.Plan.{SeenPlan, IsPlan, site_count, edges_of}
@@ -21,8 +21,9 @@ use Rattle.dine_rules.proofs.shared.links.WorldStreams.{reached_kept}
 use Rattle.dine_site.specs.CoreWants.{wants_by_lists}
 use Rattle.dine_site.specs.NextEvent.{may_by_itself, next_event, own_kinds}
 use Rattle.dine_site.specs.Standing.{all_places, has_finished}
+use Rattle.dine_waking.specs.Resting.{RestsWell}
 use Rattle.dine_waking.specs.Sleeping.{AllSleepWell, ArePlacesBelow, Coming, SleepsWell, letters_coming_at}
-use Rattle.dine_waking.specs.Runs.{ByActing, ByHearing, ByRinging, BySleeping, ByTaking, ByWaking, Doing, GoesOn, RunHasEnded, HasToRing, Run, RunStep, Sleeps, HasToTake, Thread, ThreadStep, HasToWake, IsToBeWoken, after_ringing, doing_after, fresh_thread, is_woken_by, places_heard, number_there, rings_for, thread_after_ring, takes_letters, thread_of}
+use Rattle.dine_waking.specs.Runs.{ByActing, ByHearing, ByRinging, BySleeping, ByTaking, ByWaking, Doing, GoesOn, MaySleepBefore, RunHasEnded, HasToRing, Run, RunStep, Sleeps, HasToTake, TakesLetter, Thread, ThreadStep, HasToWake, IsToBeWoken, after_ringing, doing_after, fresh_thread, is_woken_by, may_think_on, places_heard, number_there, rings_for, thread_after_ring, takes_letters, thread_of}
 use Rattle.dine_waking.proofs.Quiet.{first_is_next}
 use Rattle.dine_waking.proofs.Letters.{first_at}
 use Rattle.dine_waking.proofs.Queues.{event_happens, take_happens}
@@ -68,7 +69,7 @@ complete_finished plan world s is_plan is_site keeps complete =
 
 -- ---- an event that a site may do by itself happens
 
-own_happens : (plan : SeenPlan) (world : WorldState) (s : ℕ) → s < site_count plan → (kind : EventKind) → may_by_itself plan s (state_of world s) kind ≡ true → (new : WorldState) × (world_after plan world (record { site = s; kind = kind }) ≡ Some new)
+pub own_happens : (plan : SeenPlan) (world : WorldState) (s : ℕ) → s < site_count plan → (kind : EventKind) → may_by_itself plan s (state_of world s) kind ≡ true → (new : WorldState) × (world_after plan world (record { site = s; kind = kind }) ≡ Some new)
 own_happens plan world s is_site (event.Take i) own = absurd (false≢true own)
 own_happens plan world s is_site (event.Give i) own = (_, event_happens plan world s (event.Give i) (step.Give i) is_site refl own)
 own_happens plan world s is_site event.End own = (_, event_happens plan world s event.End (step.End (meal_fails plan s (state_of world s))) is_site refl own)
@@ -87,10 +88,10 @@ CanStep plan run s = (new : Run) × ThreadStep plan s run new
 
 -- The site has finished and is awake, with no ring left, or it sleeps, or it sleeps and is to be woken. Its thread does
 -- not have to ring, nor to wake another.
-record IsAtRest (plan : SeenPlan) (run : Run) (s : ℕ) : Type 0 where
-  quiet : (place : ℕ) (letters : List Letter) → IsUnrung (thread_of run s).doing place letters → letters ≡ []
-  wakes_none : (i : ℕ) → (thread_of run s).doing ≡ HasToWake i → ⊥
-  rest : ((has_finished plan s (state_of run.world s) ≡ true) × (thread_of run s ≡ fresh_thread)) ⊎ (((wants : SeenWants) × ((thread_of run s).doing ≡ Sleeps wants)) ⊎ ((i : ℕ) × (i < length (edges_of plan s)) × ((thread_of run s).doing ≡ IsToBeWoken i)))
+pub record IsAtRest (plan : SeenPlan) (run : Run) (s : ℕ) : Type 0 where
+  pub quiet : (place : ℕ) (letters : List Letter) → IsUnrung (thread_of run s).doing place letters → letters ≡ []
+  pub wakes_none : (i : ℕ) → (thread_of run s).doing ≡ HasToWake i → ⊥
+  pub rest : ((has_finished plan s (state_of run.world s) ≡ true) × (thread_of run s ≡ fresh_thread)) ⊎ (((wants : SeenWants) × ((thread_of run s).doing ≡ Sleeps wants)) ⊎ ((i : ℕ) × (i < length (edges_of plan s)) × ((thread_of run s).doing ≡ IsToBeWoken i)))
 
 module _ (plan : SeenPlan) (is_plan : IsPlan plan) (run : Run) (keeps : RunKeeps plan run) (s : ℕ) (is_site : s < site_count plan) where
   abbrev thread : Thread
@@ -104,7 +105,7 @@ module _ (plan : SeenPlan) (is_plan : IsPlan plan) (run : Run) (keeps : RunKeeps
 
   -- it takes the letter for which it heard a ring
   module _ (i : ℕ) (takes : thread.doing ≡ HasToTake i) where
-    takes_letter : (rung_for : List Coming) → keeps_here.rung_for ≡ rung_for → CanStep plan run s
+    pub takes_letter : (rung_for : List Coming) → keeps_here.rung_for ≡ rung_for → (new : Run) × TakesLetter plan s run new
     takes_letter [] is = absurd (let e : [] ≡ i ∷ thread.bell = sym (ap (map (λ (one : Coming). one.place)) is) ∙ keeps_here.numbers ∙ ap (λ (d : Doing). places_heard d ++ thread.bell) takes in cc)
     takes_letter (first ∷ coming) is =
         let here : first.place ≡ i = (let e : first.place ∷ map (λ (one : Coming). one.place) coming ≡ i ∷ thread.bell = sym (ap (map (λ (one : Coming). one.place)) is) ∙ keeps_here.numbers ∙ ap (λ (d : Doing). places_heard d ++ thread.bell) takes in cc) in
@@ -116,12 +117,12 @@ module _ (plan : SeenPlan) (is_plan : IsPlan plan) (run : Run) (keeps : RunKeeps
         let next = first_is_next (put_to plan run.world s i) (length (traffic_at state i).taken) first.letter (letters_coming_at i coming ++ link.left) queue in
         let happens = take_happens plan is_plan run.world (reached_kept plan keeps.events run.world is_plan keeps.reached) s i is_site within first.letter (letters_coming_at i coming ++ link.left) queue
         (reached_allowed plan keeps.events run.world s i is_plan keeps.reached is_site within first.letter next.0) in
-        (record { world = _; threads = slice_set run.threads s (record { doing = GoesOn; bell = thread.bell }) }, ByTaking (record { i = i; takes = takes; world = happens; threads = refl }))
+        (record { world = _; is_open = run.is_open; threads = slice_set run.threads s (record { doing = GoesOn; bell = thread.bell }) }, record { i = i; takes = takes; world = happens; as_open = refl; threads = refl })
 
   -- the neighbour that it has to wake is woken from here
   pub finds_woken : (i : ℕ) → thread.doing ≡ HasToWake i → (thread_of run (neighbour_at plan s i)).doing ≡ IsToBeWoken (number_there plan s i)
   finds_woken i wakes =
-      let within : i < length (edges_of plan s) = subst (λ (d : Doing). Fits plan s state keeps_here.rung_for d) wakes keeps_here.fits in
+      let within : i < length (edges_of plan s) = subst (λ (d : Doing). Fits plan run.is_open s state keeps_here.rung_for d) wakes keeps_here.fits in
       let over = across plan s i is_plan within in
       (keeps.waking (neighbour_at plan s i) (number_there plan s i) over.is_site over.within).finds
       (ap (λ (x : ℕ). (thread_of run x).doing) over.back ∙ wakes ∙ ap HasToWake (sym (leads_back plan is_plan s i within)))
@@ -129,18 +130,19 @@ module _ (plan : SeenPlan) (is_plan : IsPlan plan) (run : Run) (keeps : RunKeeps
   goes_on : thread.doing ≡ GoesOn → (next : Option EventKind) → next_event plan s state ≡ next → (bell : List ℕ) → thread.bell ≡ bell → (b : Bool) → has_finished plan s state ≡ b → CanStep plan run s ⊎ IsAtRest plan run s
   goes_on on (Some kind) next bell ringing b finished =
       let happens = own_happens plan run.world s is_site kind (found_passes (may_by_itself plan s state) (own_kinds (all_places state)) kind next) in
-      inl (record { world = happens.0; threads = slice_set run.threads s (record { doing = doing_after kind; bell = thread.bell }) }, ByActing (record { goes_on = on; kind = kind; next = next; world = happens.1; threads = refl }))
+      inl (record { world = happens.0; is_open = run.is_open; threads = slice_set run.threads s (record { doing = doing_after kind; bell = thread.bell }) }, ByActing (record { goes_on = on; kind = kind; next = next; world = happens.1; as_open = refl; threads = refl }))
   goes_on on None next (i ∷ rest) ringing b finished =
-      inl (record { world = run.world; threads = slice_set run.threads s (record { doing = HasToTake i; bell = rest }) }, ByHearing (record { goes_on = on; turn = ap takes_letters next; i = i; front = []; rest = rest; bell = ringing; first = refl; world = refl; threads = refl }))
+      inl (record run { threads = slice_set run.threads s (record { doing = HasToTake i; bell = rest }) }, ByHearing (record { goes_on = on; turn = ap (λ (o : Option EventKind). takes_letters o || may_think_on run.is_open o) next; i = i; front = []; rest = rest; bell = ringing; first = refl; world = refl; as_open = refl; threads = refl }))
   goes_on on None next [] ringing false finished = inl (
-    record { world = run.world; threads = slice_set run.threads s (record { doing = Sleeps (wants_by_lists plan s state); bell = thread.bell }) },
+    record run { threads = slice_set run.threads s (record { doing = Sleeps (wants_by_lists plan s state); bell = thread.bell }) },
     BySleeping (record {
       goes_on = on;
-      idle = next;
+      idle = inl next;
       unfinished = finished;
       put_off = λ i some. absurd (omega (arith, some, ap (rings_for i) ringing));
       once = λ i. omega (arith, ap (rings_for i) ringing);
       world = refl;
+      as_open = refl;
       threads = refl;
     }),
   )
@@ -153,22 +155,20 @@ module _ (plan : SeenPlan) (is_plan : IsPlan plan) (run : Run) (keeps : RunKeeps
   by_doing : (doing : Doing) → thread.doing ≡ doing → CanStep plan run s ⊎ IsAtRest plan run s
   by_doing GoesOn is = goes_on is (next_event plan s state) refl thread.bell refl (has_finished plan s state) refl
   by_doing (HasToRing i kind) is = inl (
-    record {
-      world = run.world;
+    record run {
       threads = slice_set
           (slice_set run.threads s (record { doing = after_ringing (is_woken_by false (number_there plan s i) kind (thread_of run (neighbour_at plan s i)).doing) i; bell = thread.bell }))
           (neighbour_at plan s i) (thread_after_ring false (number_there plan s i) kind (thread_of run (neighbour_at plan s i)));
     },
-    ByRinging (record { i = i; kind = kind; anyway = false; rings = is; world = refl; threads = refl }),
+    ByRinging (record { i = i; kind = kind; anyway = false; rings = is; world = refl; as_open = refl; threads = refl }),
   )
   by_doing (HasToWake i) is = inl (
-    record {
-      world = run.world;
+    record run {
       threads = slice_set (slice_set run.threads s (record { doing = GoesOn; bell = thread.bell })) (neighbour_at plan s i) (record { doing = GoesOn; bell = (thread_of run (neighbour_at plan s i)).bell });
     },
-    ByWaking (record { i = i; wakes = is; woken = finds_woken i is; world = refl; threads = refl }),
+    ByWaking (record { i = i; wakes = is; woken = finds_woken i is; world = refl; as_open = refl; threads = refl }),
   )
-  by_doing (HasToTake i) is = inl (takes_letter i is keeps_here.rung_for refl)
+  by_doing (HasToTake i) is = let taken = takes_letter i is keeps_here.rung_for refl in inl (taken.0, ByTaking taken.1)
   by_doing (Sleeps wants) is = inr (record {
     quiet = λ place letters unrung. subst (λ (d : Doing). IsUnrung d place letters) is unrung;
     wakes_none = λ i wakes. let e : Sleeps wants ≡ HasToWake i = sym is ∙ wakes in cc;
@@ -177,7 +177,7 @@ module _ (plan : SeenPlan) (is_plan : IsPlan plan) (run : Run) (keeps : RunKeeps
   by_doing (IsToBeWoken i) is = inr (record {
     quiet = λ place letters unrung. subst (λ (d : Doing). IsUnrung d place letters) is unrung;
     wakes_none = λ j wakes. let e : IsToBeWoken i ≡ HasToWake j = sym is ∙ wakes in cc;
-    rest = inr (inr (i, subst (λ (d : Doing). Fits plan s state keeps_here.rung_for d) is keeps_here.fits, is));
+    rest = inr (inr (i, subst (λ (d : Doing). Fits plan run.is_open s state keeps_here.rung_for d) is keeps_here.fits, is));
   })
 
   step_or_rest : CanStep plan run s ⊎ IsAtRest plan run s
@@ -185,56 +185,88 @@ module _ (plan : SeenPlan) (is_plan : IsPlan plan) (run : Run) (keeps : RunKeeps
 
 -- ---- all sites
 
-module _ (plan : SeenPlan) (is_plan : IsPlan plan) (run : Run) (keeps : RunKeeps plan run) where
+-- who sleeps in a run that is not open can do nothing
+idle_if_shut : (is_open : Bool) (next : Option EventKind) → is_open ≡ false → MaySleepBefore is_open next → next ≡ None
+idle_if_shut is_open next shut may = elim may [
+  | inl none ↦ none
+  | inr opened ↦ absurd (true≢false (sym opened.0 ∙ shut))
+]
+
+-- in any run, or it may grow hungry
+idle_or_hungry : (is_open : Bool) (next : Option EventKind) → MaySleepBefore is_open next → (next ≡ None) ⊎ (next ≡ Some event.Hungry)
+idle_or_hungry is_open next may = elim may [
+  | inl none ↦ inl none
+  | inr opened ↦ inr opened.1
+]
+
+module _ (plan : SeenPlan) (is_plan : IsPlan plan) (run : Run) (keeps : RunKeeps plan run) (at_rest : (s : ℕ) → s < site_count plan → IsAtRest plan run s) where
+  pub rests_well : (s : ℕ) → s < site_count plan → (wants : SeenWants) → (thread_of run s).doing ≡ Sleeps wants → RestsWell plan run.world s
+  rests_well s is_site wants is =
+      let here : KeepsBell plan run s = keeps.sites s is_site in
+      let fits : Fits plan run.is_open s (state_of run.world s) here.rung_for (Sleeps wants) = subst (λ (d : Doing). Fits plan run.is_open s (state_of run.world s) here.rung_for d) is here.fits in
+      record {
+        idle = idle_or_hungry run.is_open (next_event plan s (state_of run.world s)) fits.0;
+        coming = here.rung_for;
+        last = wants;
+        places = here.places;
+        in_links = λ i within.
+            let link : InLink plan run s i here.rung_for = here.links i within in
+            let over = across plan s i is_plan within in
+            sym (link.queue ∙ ap (λ (letters : List Letter). letters_coming_at i here.rung_for ++ letters)
+            ((at_rest (neighbour_at plan s i) over.is_site).quiet (place_of plan (neighbour_at plan s i) (edge_at plan s i)) link.left link.unrung) ∙ append-nil (letters_coming_at i here.rung_for));
+        unwanted = fits.2;
+      }
+
+  -- who is woken has a neighbour that has to wake it
+  pub nobody_woken : (s : ℕ) → s < site_count plan → (i : ℕ) → i < length (edges_of plan s) → (thread_of run s).doing ≡ IsToBeWoken i → ⊥
+  nobody_woken s is_site i within woken = (at_rest (neighbour_at plan s i) (across plan s i is_plan within).is_site).wakes_none
+      (place_of plan (neighbour_at plan s i) (edge_at plan s i)) ((keeps.waking s i is_site within).comes woken)
+
+  -- who sleeps has not finished
+  pub sleeps_unfinished : (s : ℕ) → s < site_count plan → (wants : SeenWants) → (thread_of run s).doing ≡ Sleeps wants → has_finished plan s (state_of run.world s) ≡ false
+  sleeps_unfinished s is_site wants is =
+      let here : KeepsBell plan run s = keeps.sites s is_site in
+      let fits : Fits plan run.is_open s (state_of run.world s) here.rung_for (Sleeps wants) = subst (λ (d : Doing). Fits plan run.is_open s (state_of run.world s) here.rung_for d) is here.fits in
+      fits.1
+
+  pub complete_has_ended : IsComplete plan run.world → RunHasEnded plan run
+  complete_has_ended complete = record { complete = complete; finished = all_finished; awake = all_awake }
+    where
+      all_finished : (s : ℕ) → s < site_count plan → has_finished plan s (state_of run.world s) ≡ true
+      all_finished s is_site = complete_finished plan run.world s is_plan is_site ((reached_kept plan keeps.events run.world is_plan keeps.reached).keeps s is_site) complete
+
+      all_awake : (s : ℕ) → s < site_count plan → thread_of run s ≡ fresh_thread
+      all_awake s is_site = elim (at_rest s is_site).rest [
+        | inl w ↦ w.1
+        | inr (inl w) ↦ absurd (true≢false (sym (all_finished s is_site) ∙ sleeps_unfinished s is_site w.0 w.1))
+        | inr (inr w) ↦ absurd (nobody_woken s is_site w.0 w.1 w.2)
+      ]
+
+module _ (plan : SeenPlan) (is_plan : IsPlan plan) (run : Run) (keeps : RunKeeps plan run) (shut : run.is_open ≡ false) where
   module _ (at_rest : (s : ℕ) → s < site_count plan → IsAtRest plan run s) where
     sleeps_well : (s : ℕ) → s < site_count plan → (wants : SeenWants) → (thread_of run s).doing ≡ Sleeps wants → SleepsWell plan run.world s
     sleeps_well s is_site wants is =
         let here : KeepsBell plan run s = keeps.sites s is_site in
-        let fits : Fits plan s (state_of run.world s) here.rung_for (Sleeps wants) = subst (λ (d : Doing). Fits plan s (state_of run.world s) here.rung_for d) is here.fits in
+        let fits : Fits plan run.is_open s (state_of run.world s) here.rung_for (Sleeps wants) = subst (λ (d : Doing). Fits plan run.is_open s (state_of run.world s) here.rung_for d) is here.fits in
+        let rests : RestsWell plan run.world s = rests_well plan is_plan run keeps at_rest s is_site wants is in
         record {
-          idle = fits.0;
-          coming = here.rung_for;
-          last = wants;
-          places = here.places;
-          in_links = λ i within.
-              let link : InLink plan run s i here.rung_for = here.links i within in
-              let over = across plan s i is_plan within in
-              sym (link.queue ∙ ap (λ (letters : List Letter). letters_coming_at i here.rung_for ++ letters)
-              ((at_rest (neighbour_at plan s i) over.is_site).quiet (place_of plan (neighbour_at plan s i) (edge_at plan s i)) link.left link.unrung) ∙ append-nil (letters_coming_at i here.rung_for));
-          unwanted = fits.2;
+          idle = idle_if_shut run.is_open (next_event plan s (state_of run.world s)) shut fits.0;
+          coming = rests.coming;
+          last = rests.last;
+          places = rests.places;
+          in_links = rests.in_links;
+          unwanted = rests.unwanted;
         }
-
-    -- who is woken has a neighbour that has to wake it
-    nobody_woken : (s : ℕ) → s < site_count plan → (i : ℕ) → i < length (edges_of plan s) → (thread_of run s).doing ≡ IsToBeWoken i → ⊥
-    nobody_woken s is_site i within woken = (at_rest (neighbour_at plan s i) (across plan s i is_plan within).is_site).wakes_none
-        (place_of plan (neighbour_at plan s i) (edge_at plan s i)) ((keeps.waking s i is_site within).comes woken)
 
     all_sleep : AllSleepWell plan run.world
     all_sleep s is_site = elim (at_rest s is_site).rest [
       | inl w ↦ inl w.0
       | inr (inl w) ↦ inr (sleeps_well s is_site w.0 w.1)
-      | inr (inr w) ↦ absurd (nobody_woken s is_site w.0 w.1 w.2)
-    ]
-
-    complete : IsComplete plan run.world
-    complete = all_asleep_is_complete plan keeps.events run.world is_plan keeps.reached all_sleep
-
-    all_finished : (s : ℕ) → s < site_count plan → has_finished plan s (state_of run.world s) ≡ true
-    all_finished s is_site = complete_finished plan run.world s is_plan is_site ((reached_kept plan keeps.events run.world is_plan keeps.reached).keeps s is_site) complete
-
-    -- who sleeps has not finished
-    all_awake : (s : ℕ) → s < site_count plan → thread_of run s ≡ fresh_thread
-    all_awake s is_site = elim (at_rest s is_site).rest [
-      | inl w ↦ w.1
-      | inr (inl w) ↦
-          let here : KeepsBell plan run s = keeps.sites s is_site in
-          let fits : Fits plan s (state_of run.world s) here.rung_for (Sleeps w.0) = subst (λ (d : Doing). Fits plan s (state_of run.world s) here.rung_for d) w.1 here.fits in
-          absurd (true≢false (sym (all_finished s is_site) ∙ fits.1))
-      | inr (inr w) ↦ absurd (nobody_woken s is_site w.0 w.1 w.2)
+      | inr (inr w) ↦ absurd (nobody_woken plan is_plan run keeps at_rest s is_site w.0 w.1 w.2)
     ]
 
     ended : RunHasEnded plan run
-    ended = record { complete = complete; finished = all_finished; awake = all_awake }
+    ended = complete_has_ended plan is_plan run keeps at_rest (all_asleep_is_complete plan keeps.events run.world is_plan keeps.reached all_sleep)
 
   pub step_or_end : ((new : Run) × RunStep plan run new) ⊎ RunHasEnded plan run
   step_or_end = elim (all_or_one {P = IsAtRest plan run} {Q = CanStep plan run} (site_count plan) (λ s is_site. swapped (step_or_rest plan is_plan run keeps s is_site))) [

@@ -36,7 +36,7 @@ pub rang_for_request : (plan : SeenPlan) (is_plan : IsPlan plan) (old new : Run)
 rang_for_request plan is_plan old new t keeps is_site r is =
     let there : ℕ = neighbour_at plan t r.i in
     let number : ℕ = number_there plan t r.i in
-    let within : r.i < length (edges_of plan t) = subst (λ (d : Doing). Fits plan t (state_of old.world t) (keeps.sites t is_site).rung_for d) r.rings (keeps.sites t is_site).fits in
+    let within : r.i < length (edges_of plan t) = subst (λ (d : Doing). Fits plan old.is_open t (state_of old.world t) (keeps.sites t is_site).rung_for d) r.rings (keeps.sites t is_site).fits in
     let over = across plan t r.i is_plan within in
     let keeps_new : RunKeeps plan new = keeps_rung plan is_plan old new keeps t is_site r in
     let kept : WorldKeeps plan new.world = reached_kept plan keeps_new.events new.world is_plan keeps_new.reached in
@@ -48,6 +48,6 @@ rang_for_request plan is_plan old new t keeps is_site r is =
 
 pub rang_waits : (plan : SeenPlan) (is_plan : IsPlan plan) (old new : Run) (t : ℕ) → RunKeeps plan old → t < site_count plan → (r : RingsBell plan t old new) → r.kind ≡ kind.Request → WaitsForFork plan new t r.i
 rang_waits plan is_plan old new t keeps is_site r is =
-    let within : r.i < length (edges_of plan t) = subst (λ (d : Doing). Fits plan t (state_of old.world t) (keeps.sites t is_site).rung_for d) r.rings (keeps.sites t is_site).fits in
+    let within : r.i < length (edges_of plan t) = subst (λ (d : Doing). Fits plan old.is_open t (state_of old.world t) (keeps.sites t is_site).rung_for d) r.rings (keeps.sites t is_site).fits in
     let asks = rang_for_request plan is_plan old new t keeps is_site r is in
     asker_waits plan is_plan t r.i within new (keeps_rung plan is_plan old new keeps t is_site r) asks.0 asks.1

@@ -47,14 +47,14 @@ unrung_rung anyway i kind (IsToBeWoken j) place letters unrung = unrung
 unrung_rung anyway i kind (Sleeps wants) place letters unrung = unrung_woken (is_wanted wants i kind || anyway) i (still_wanted wants kind) place letters unrung
 
 -- if it sleeps on, the letter was unwanted too
-module _ (plan : SeenPlan) (s : ℕ) (state : LocalState) (rung_for : List Coming) (one : Coming) (within : one.place < length (edges_of plan s)) where
-  fits_woken : (wanted anyway : Bool) (last : SeenWants) → Fits plan s state rung_for (Sleeps last) → is_wanted last one.place (kind_of one.letter) ≡ wanted
-      → Fits plan s state (rung_for ++ one ∷ []) (if wanted || anyway then IsToBeWoken one.place else Sleeps (still_wanted last (kind_of one.letter)))
+module _ (plan : SeenPlan) (is_open : Bool) (s : ℕ) (state : LocalState) (rung_for : List Coming) (one : Coming) (within : one.place < length (edges_of plan s)) where
+  fits_woken : (wanted anyway : Bool) (last : SeenWants) → Fits plan is_open s state rung_for (Sleeps last) → is_wanted last one.place (kind_of one.letter) ≡ wanted
+      → Fits plan is_open s state (rung_for ++ one ∷ []) (if wanted || anyway then IsToBeWoken one.place else Sleeps (still_wanted last (kind_of one.letter)))
   fits_woken true anyway last fits is = within
   fits_woken false true last fits is = within
   fits_woken false false last fits is = (fits.0, fits.1, come_more one (wants_by_lists plan s state) rung_for last fits.2 is)
 
-  fits_rung : (anyway : Bool) (doing : Doing) → Fits plan s state rung_for doing → Fits plan s state (rung_for ++ one ∷ []) (doing_rung anyway one.place (kind_of one.letter) doing)
+  fits_rung : (anyway : Bool) (doing : Doing) → Fits plan is_open s state rung_for doing → Fits plan is_open s state (rung_for ++ one ∷ []) (doing_rung anyway one.place (kind_of one.letter) doing)
   fits_rung anyway GoesOn fits = tt
   fits_rung anyway (HasToRing j k) fits = fits
   fits_rung anyway (HasToWake j) fits = fits
@@ -72,16 +72,16 @@ unrung_ringer : (b : Bool) (i place : ℕ) (letters : List Letter) → letters �
 unrung_ringer true i place letters none = none
 unrung_ringer false i place letters none = none
 
-fits_ringer : (plan : SeenPlan) (s : ℕ) (state : LocalState) (rung_for : List Coming) (b : Bool) (i : ℕ) → i < length (edges_of plan s) → Fits plan s state rung_for (after_ringing b i)
-fits_ringer plan s state rung_for true i within = within
-fits_ringer plan s state rung_for false i within = tt
+fits_ringer : (plan : SeenPlan) (is_open : Bool) (s : ℕ) (state : LocalState) (rung_for : List Coming) (b : Bool) (i : ℕ) → i < length (edges_of plan s) → Fits plan is_open s state rung_for (after_ringing b i)
+fits_ringer plan is_open s state rung_for true i within = within
+fits_ringer plan is_open s state rung_for false i within = tt
 
 module _ (plan : SeenPlan) (is_plan : IsPlan plan) (old new : Run) (keeps : RunKeeps plan old) (s : ℕ) (is_site : s < site_count plan) (r : RingsBell plan s old new) where
   keeps_here : KeepsBell plan old s
   keeps_here = keeps.sites s is_site
 
   within : r.i < length (edges_of plan s)
-  within = subst (λ (d : Doing). Fits plan s (state_of old.world s) keeps_here.rung_for d) r.rings keeps_here.fits
+  within = subst (λ (d : Doing). Fits plan old.is_open s (state_of old.world s) keeps_here.rung_for d) r.rings keeps_here.fits
 
   abbrev there : ℕ
   there = neighbour_at plan s r.i
@@ -152,13 +152,13 @@ module _ (plan : SeenPlan) (is_plan : IsPlan plan) (old new : Run) (keeps : RunK
     places = keeps_here.places;
     numbers = keeps_here.numbers ∙ ap (λ (d : Doing). places_heard d ++ (thread_of old s).bell) r.rings ∙ ap (λ (numbers : List ℕ). numbers ++ (thread_of old s).bell) (sym (heard_ringer woke r.i)) ∙ ap rings_left (sym thread_ringer);
     links = λ j of_s. link_kept s j keeps_here.rung_for (λ same at. neighbour_differs plan s j (placed plan s j is_plan of_s) same) (keeps_here.links j of_s);
-    fits = subst (λ (thread : Thread). Fits plan s (state_of new.world s) keeps_here.rung_for thread.doing) (sym thread_ringer) (fits_ringer plan s (state_of new.world s) keeps_here.rung_for woke r.i within);
+    fits = subst (λ (thread : Thread). Fits plan new.is_open s (state_of new.world s) keeps_here.rung_for thread.doing) (sym thread_ringer) (fits_ringer plan new.is_open s (state_of new.world s) keeps_here.rung_for woke r.i within);
   }
 
   -- ---- a third site
 
   third_keeps : (t : ℕ) → t < site_count plan → t ≢ s → t ≢ there → KeepsBell plan new t
-  third_keeps t is_t not_s not_there = site_stays plan old new t (thread_other t not_s not_there) (ap (λ (world : WorldState). state_of world t) r.world)
+  third_keeps t is_t not_s not_there = site_stays plan old new t (thread_other t not_s not_there) (ap (λ (world : WorldState). state_of world t) r.world) r.as_open
       (λ j rung_for of_t. link_kept t j rung_for (λ from at. not_there (
       sym (across plan t j is_plan of_t).back ∙ ap (λ (x : ℕ). neighbour_at plan x (place_of plan (neighbour_at plan t j) (edge_at plan t j))) from ∙ ap (neighbour_at plan s) (sym at))))
       (keeps.sites t is_t)
@@ -224,10 +224,11 @@ module _ (plan : SeenPlan) (is_plan : IsPlan plan) (old new : Run) (keeps : RunK
   rings_there = append_assoc (places_heard (thread_of old there).doing) (thread_of old there).bell (number ∷ [])
       ∙ ap (λ (numbers : List ℕ). numbers ++ ((thread_of old there).bell ++ number ∷ [])) (sym (heard_rung r.anyway number r.kind (thread_of old there).doing))
 
-  fits_there : Fits plan there (state_of new.world there) (keeps_there.rung_for ++ one ∷ []) sleeper.doing
-  fits_there = subst (λ (world : WorldState). Fits plan there (state_of world there) (keeps_there.rung_for ++ one ∷ []) sleeper.doing) (sym r.world)
-      (subst (λ (kind : LetterKind). Fits plan there (state_of old.world there) (keeps_there.rung_for ++ one ∷ []) (doing_rung r.anyway number kind (thread_of old there).doing)) one_left.2
-      (fits_rung plan there (state_of old.world there) keeps_there.rung_for one over.within r.anyway (thread_of old there).doing keeps_there.fits))
+  fits_there : Fits plan new.is_open there (state_of new.world there) (keeps_there.rung_for ++ one ∷ []) sleeper.doing
+  fits_there = subst (λ (b : Bool). Fits plan b there (state_of new.world there) (keeps_there.rung_for ++ one ∷ []) sleeper.doing) (sym r.as_open)
+      (subst (λ (world : WorldState). Fits plan old.is_open there (state_of world there) (keeps_there.rung_for ++ one ∷ []) sleeper.doing) (sym r.world)
+      (subst (λ (kind : LetterKind). Fits plan old.is_open there (state_of old.world there) (keeps_there.rung_for ++ one ∷ []) (doing_rung r.anyway number kind (thread_of old there).doing)) one_left.2
+      (fits_rung plan old.is_open there (state_of old.world there) keeps_there.rung_for one over.within r.anyway (thread_of old there).doing keeps_there.fits)))
 
   sleeper_keeps : KeepsBell plan new there
   sleeper_keeps = record {
@@ -235,7 +236,7 @@ module _ (plan : SeenPlan) (is_plan : IsPlan plan) (old new : Run) (keeps : RunK
     places = places_more one (length (edges_of plan there)) keeps_there.rung_for over.within keeps_there.places;
     numbers = numbers_more one keeps_there.rung_for ∙ ap (λ (numbers : List ℕ). numbers ++ number ∷ []) keeps_there.numbers ∙ rings_there ∙ ap rings_left (sym thread_there);
     links = links_there;
-    fits = subst (λ (thread : Thread). Fits plan there (state_of new.world there) (keeps_there.rung_for ++ one ∷ []) thread.doing) (sym thread_there) fits_there;
+    fits = subst (λ (thread : Thread). Fits plan new.is_open there (state_of new.world there) (keeps_there.rung_for ++ one ∷ []) thread.doing) (sym thread_there) fits_there;
   }
 
   pub sites_rung : (t : ℕ) → t < site_count plan → KeepsBell plan new t

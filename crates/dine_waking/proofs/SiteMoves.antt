@@ -15,7 +15,7 @@ use Rattle.dine_rules.proofs.shared.counting.Persistence.{IsLonger, longer_same,
 use Rattle.dine_rules.proofs.shared.lists.Counting.{forks_in-append}
 use Rattle.dine_rules.proofs.shared.links.WorldStreams.{event_is_step}
 use Rattle.dine_waking.specs.Manners.{meals_so_far}
-use Rattle.dine_waking.specs.Runs.{ByActing, ByHearing, ByRinging, BySleeping, ByTaking, ByWaking, LeadsBySteps, Run, ThreadStep}
+use Rattle.dine_waking.specs.Runs.{ByActing, ByDoorbell, ByHearing, ByRinging, BySleeping, ByTaking, ByWaking, LeadsBySteps, Run, ThreadStep}
 use Rattle.dine_waking.proofs.AskedPlaces.{begins_or_not, step_takes}
 
 -- the site's state stays, or the site does one step
@@ -42,6 +42,7 @@ site_moves plan x old new (ByWaking h) s = inl (ap (λ (world : WorldState). sta
 site_moves plan x old new (ByHearing h) s = inl (ap (λ (world : WorldState). state_of world s) h.world)
 site_moves plan x old new (ByTaking t) s = event_moves plan old.world new.world x (event.Take t.i) t.world s
 site_moves plan x old new (BySleeping f) s = inl (ap (λ (world : WorldState). state_of world s) f.world)
+site_moves plan x old new (ByDoorbell d) s = inl (ap (λ (world : WorldState). state_of world s) d.world)
 
 -- ---- letters are only put behind those put
 

@@ -44,7 +44,7 @@ module _ (k : ℕ) (polite : Bool) (bell : List ℕ) (higher : Thread) where
   site does n = record (state_in does [] []) { ate = n }
 
   abbrev pub at : Phase → ℕ → Run
-  at does n = record { world = site does n ∷ state_in phase.Hungry (request ∷ []) [] ∷ []; threads = at_work GoesOn bell ∷ higher ∷ [] }
+  at does n = record { world = site does n ∷ state_in phase.Hungry (request ∷ []) [] ∷ []; threads = at_work GoesOn bell ∷ higher ∷ []; is_open = false }
 
   pub in_manner : (checked : ℕ → Bool) (old new : Run) (a : Acts plan 0 old new) (b : Bool) → (b ≡ true → a.kind ≡ event.Begin → has_checked plan old checked 0 ≡ true) → IsInManner plan 0 checked old new (ByActing a) b
   in_manner checked old new a true checks = checks refl
@@ -70,6 +70,7 @@ module _ (k : ℕ) (polite : Bool) (bell : List ℕ) (higher : Thread) where
       kind = event.Hungry;
       next = cond-true (may plan 0 (site phase.Thinking n) step.Hungry) (Some event.Hungry) _ may_hunger;
       world = event_happens plan (at phase.Thinking n).world 0 event.Hungry step.Hungry (omega arith) refl may_hunger;
+      as_open = refl;
       threads = refl;
     }) (λ polite is. absurd cc)
 
@@ -83,6 +84,7 @@ module _ (k : ℕ) (polite : Bool) (bell : List ℕ) (higher : Thread) where
       kind = event.Begin;
       next = cond-true (may plan 0 (site phase.Hungry n) step.Begin) (Some event.Begin) _ may_begin;
       world = event_happens plan (at phase.Hungry n).world 0 event.Begin step.Begin (omega arith) refl may_begin;
+      as_open = refl;
       threads = refl;
     }) (λ is begins. checks is)
 
@@ -97,6 +99,7 @@ module _ (k : ℕ) (polite : Bool) (bell : List ℕ) (higher : Thread) where
           world = event_happens plan (at phase.Eating (n + 1)).world 0 event.End (step.End failed) (omega arith) refl refl
               ∙ ap (λ (b : Bool). Some (record (site phase.Thinking (n + 1)) { must_quit = b } ∷ state_in phase.Hungry (request ∷ []) [] ∷ []))
               (never_drops failed (nat_lt (n + 1) (job_count plan 0)));
+          as_open = refl;
           threads = refl;
         }) (λ polite is. absurd cc)
 

@@ -1,5 +1,5 @@
 -- Steps of two workers: the higher one asks for the fork, and the lower one gives it and asks for it again.
-use Rattle.std.proofs.Common.{◌≡◌, ◌<◌, ℕ, zero, suc, List, [], ◌∷◌, ◌++◌, false, refl, sym, ◌∙◌, arith}
+use Rattle.std.proofs.Common.{◌≡◌, ◌<◌, ℕ, zero, suc, List, [], ◌∷◌, ◌++◌, false, true, refl, sym, ◌∙◌, inl, arith}
 use Rattle.dine_rules.specs.declared.events.EventKind.TheVariants as event
 use Rattle.dine_rules.specs.declared.letters.LetterKind.TheVariants as kind
 use Rattle.dine_rules.specs.declared.phase.Phase.TheVariants.{Hungry, Thinking}
@@ -11,11 +11,11 @@ use Rattle.dine_set.specs.Marks.{marks_of}
 use Rattle.dine_site.specs.CoreWants.{wants_by_lists}
 use Rattle.dine_waking.specs.Examples.{asked_world, asleep_run, at_work, fork_given_first, request, state_in, two_workers}
 use Rattle.dine_waking.specs.Mistakes.{hung_run}
-use Rattle.dine_waking.specs.Runs.{ByActing, ByHearing, ByRinging, BySleeping, ByTaking, ByWaking, GoesOn, HasToRing, HasToTake, HasToWake, IsStuck, Run, RunStep, Sleeps, Thread, ThreadStep, start_run, thread_of}
+use Rattle.dine_waking.specs.Runs.{ByActing, ByDoorbell, ByHearing, ByRinging, BySleeping, ByTaking, ByWaking, GoesOn, HasToRing, HasToTake, HasToWake, IsStuck, Run, RunStep, Sleeps, Thread, ThreadStep, start_run, thread_of}
 
 -- these two sites, with these threads
 abbrev pub moment : LocalState → LocalState → Thread → Thread → Run
-moment low high lower higher = record { world = low ∷ high ∷ []; threads = lower ∷ higher ∷ [] }
+moment low high lower higher = record { world = low ∷ high ∷ []; threads = lower ∷ higher ∷ []; is_open = false }
 
 -- the higher site after it asked
 abbrev pub asker : LocalState
@@ -52,16 +52,16 @@ abbrev pub rang : Run
 rang = moment (state_in Thinking [] []) asker (at_work GoesOn (0 ∷ [])) (at_work GoesOn [])
 
 pub grows_hungry : RunStep two_workers (start_run two_workers) hungry
-grows_hungry = higher_does (start_run two_workers) hungry (ByActing (record { goes_on = refl; kind = event.Hungry; next = refl; world = refl; threads = refl }))
+grows_hungry = higher_does (start_run two_workers) hungry (ByActing (record { goes_on = refl; kind = event.Hungry; next = refl; world = refl; as_open = refl; threads = refl }))
 
 pub asks_for_fork : RunStep two_workers hungry asks
-asks_for_fork = higher_does hungry asks (ByActing (record { goes_on = refl; kind = event.Ask 0; next = refl; world = refl; threads = refl }))
+asks_for_fork = higher_does hungry asks (ByActing (record { goes_on = refl; kind = event.Ask 0; next = refl; world = refl; as_open = refl; threads = refl }))
 
 pub rings_for_request : RunStep two_workers asks rang
-rings_for_request = higher_does asks rang (ByRinging (record { i = 0; kind = kind.Request; anyway = false; rings = refl; world = refl; threads = refl }))
+rings_for_request = higher_does asks rang (ByRinging (record { i = 0; kind = kind.Request; anyway = false; rings = refl; world = refl; as_open = refl; threads = refl }))
 
 pub falls_asleep : RunStep two_workers rang asleep_run
-falls_asleep = higher_does rang asleep_run (BySleeping (record { goes_on = refl; idle = refl; unfinished = refl; put_off = λ i some. absurd (omega (arith, some)); once = λ i. omega arith; world = refl; threads = refl }))
+falls_asleep = higher_does rang asleep_run (BySleeping (record { goes_on = refl; idle = inl refl; unfinished = refl; put_off = λ i some. absurd (omega (arith, some)); once = λ i. omega arith; world = refl; as_open = refl; threads = refl }))
 
 -- ---- the lower one gives the fork, whatever the thread of the higher one is at
 module _ (higher : Thread) where
@@ -91,19 +91,19 @@ module _ (higher : Thread) where
   request_rung = moment low_asks asker (at_work GoesOn []) higher
 
   pub grows_hungry_too : RunStep two_workers heard_none hungry_too
-  grows_hungry_too = lower_does heard_none hungry_too (ByActing (record { goes_on = refl; kind = event.Hungry; next = refl; world = refl; threads = refl }))
+  grows_hungry_too = lower_does heard_none hungry_too (ByActing (record { goes_on = refl; kind = event.Hungry; next = refl; world = refl; as_open = refl; threads = refl }))
 
   pub hears : RunStep two_workers hungry_too heard_ring
-  hears = lower_does hungry_too heard_ring (ByHearing (record { goes_on = refl; turn = refl; i = 0; front = []; rest = []; bell = refl; first = refl; world = refl; threads = refl }))
+  hears = lower_does hungry_too heard_ring (ByHearing (record { goes_on = refl; turn = refl; i = 0; front = []; rest = []; bell = refl; first = refl; world = refl; as_open = refl; threads = refl }))
 
   pub takes : RunStep two_workers heard_ring took_request
-  takes = lower_does heard_ring took_request (ByTaking (record { i = 0; takes = refl; world = refl; threads = refl }))
+  takes = lower_does heard_ring took_request (ByTaking (record { i = 0; takes = refl; world = refl; as_open = refl; threads = refl }))
 
   pub gives : RunStep two_workers took_request gave_fork
-  gives = lower_does took_request gave_fork (ByActing (record { goes_on = refl; kind = event.Give 0; next = refl; world = refl; threads = refl }))
+  gives = lower_does took_request gave_fork (ByActing (record { goes_on = refl; kind = event.Give 0; next = refl; world = refl; as_open = refl; threads = refl }))
 
   pub asks_again : RunStep two_workers fork_rung asked_again
-  asks_again = lower_does fork_rung asked_again (ByActing (record { goes_on = refl; kind = event.Ask 0; next = refl; world = refl; threads = refl }))
+  asks_again = lower_does fork_rung asked_again (ByActing (record { goes_on = refl; kind = event.Ask 0; next = refl; world = refl; as_open = refl; threads = refl }))
 
 -- ---- both sleep
 
@@ -116,25 +116,26 @@ sleeper rings = at_work (Sleeps its_fork) rings
 
 pub rings_unwanted : (rings : List ℕ) → RunStep two_workers (asked_again (sleeper rings)) (request_rung (sleeper (rings ++ 0 ∷ [])))
 unfolding marks_of
-rings_unwanted rings = lower_does (asked_again (sleeper rings)) (request_rung (sleeper (rings ++ 0 ∷ []))) (ByRinging (record { i = 0; kind = kind.Request; anyway = false; rings = refl; world = refl; threads = refl }))
+rings_unwanted rings = lower_does (asked_again (sleeper rings)) (request_rung (sleeper (rings ++ 0 ∷ []))) (ByRinging (record { i = 0; kind = kind.Request; anyway = false; rings = refl; world = refl; as_open = refl; threads = refl }))
 
 pub falls_asleep_too : (rings : List ℕ) → RunStep two_workers (request_rung (sleeper rings)) (hung_run rings)
-falls_asleep_too rings = lower_does (request_rung (sleeper rings)) (hung_run rings) (BySleeping (record { goes_on = refl; idle = refl; unfinished = refl; put_off = λ i some. absurd (omega (arith, some)); once = λ i. omega arith; world = refl; threads = refl }))
+falls_asleep_too rings = lower_does (request_rung (sleeper rings)) (hung_run rings) (BySleeping (record { goes_on = refl; idle = inl refl; unfinished = refl; put_off = λ i some. absurd (omega (arith, some)); once = λ i. omega arith; world = refl; as_open = refl; threads = refl }))
 
--- a site that sleeps does no step
-asleep_does_none : (plan : SeenPlan) (s : ℕ) (old new : Run) (wants : SeenWants) → (thread_of old s).doing ≡ Sleeps wants → ThreadStep plan s old new → ⊥
-asleep_does_none plan s old new wants asleep (ByActing a) = let e : GoesOn ≡ Sleeps wants = sym a.goes_on ∙ asleep in cc
-asleep_does_none plan s old new wants asleep (ByRinging r) = let e : HasToRing r.i r.kind ≡ Sleeps wants = sym r.rings ∙ asleep in cc
-asleep_does_none plan s old new wants asleep (ByWaking w) = let e : HasToWake w.i ≡ Sleeps wants = sym w.wakes ∙ asleep in cc
-asleep_does_none plan s old new wants asleep (ByHearing h) = let e : GoesOn ≡ Sleeps wants = sym h.goes_on ∙ asleep in cc
-asleep_does_none plan s old new wants asleep (ByTaking t) = let e : HasToTake t.i ≡ Sleeps wants = sym t.takes ∙ asleep in cc
-asleep_does_none plan s old new wants asleep (BySleeping f) = let e : GoesOn ≡ Sleeps wants = sym f.goes_on ∙ asleep in cc
+-- a site that sleeps does no step, if the run is not open
+asleep_does_none : (plan : SeenPlan) (s : ℕ) (old new : Run) (wants : SeenWants) → (thread_of old s).doing ≡ Sleeps wants → old.is_open ≡ false → ThreadStep plan s old new → ⊥
+asleep_does_none plan s old new wants asleep shut (ByActing a) = let e : GoesOn ≡ Sleeps wants = sym a.goes_on ∙ asleep in cc
+asleep_does_none plan s old new wants asleep shut (ByRinging r) = let e : HasToRing r.i r.kind ≡ Sleeps wants = sym r.rings ∙ asleep in cc
+asleep_does_none plan s old new wants asleep shut (ByWaking w) = let e : HasToWake w.i ≡ Sleeps wants = sym w.wakes ∙ asleep in cc
+asleep_does_none plan s old new wants asleep shut (ByHearing h) = let e : GoesOn ≡ Sleeps wants = sym h.goes_on ∙ asleep in cc
+asleep_does_none plan s old new wants asleep shut (ByTaking t) = let e : HasToTake t.i ≡ Sleeps wants = sym t.takes ∙ asleep in cc
+asleep_does_none plan s old new wants asleep shut (BySleeping f) = let e : GoesOn ≡ Sleeps wants = sym f.goes_on ∙ asleep in cc
+asleep_does_none plan s old new wants asleep shut (ByDoorbell d) = let e : true ≡ false = sym d.is_open ∙ shut in cc
 
 -- so no site does one when both sleep
 pub hung : (rings : List ℕ) → IsStuck two_workers (hung_run rings)
 hung rings new step = none step.site step.is_site step.step
   where
     none : (s : ℕ) → s < 2 → ThreadStep two_workers s (hung_run rings) new → ⊥
-    none zero h does = asleep_does_none two_workers 0 (hung_run rings) new _ refl does
-    none (suc zero) h does = asleep_does_none two_workers 1 (hung_run rings) new _ refl does
+    none zero h does = asleep_does_none two_workers 0 (hung_run rings) new _ refl refl does
+    none (suc zero) h does = asleep_does_none two_workers 1 (hung_run rings) new _ refl refl does
     none (suc (suc s)) h does = omega (arith, h)

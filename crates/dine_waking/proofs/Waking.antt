@@ -201,7 +201,7 @@ module _ (plan : SeenPlan) (is_plan : IsPlan plan) (old new : Run) (keeps : RunK
 
   module _ (r : RingsBell plan s old new) where
     within : r.i < length (edges_of plan s)
-    within = subst (λ (d : Doing). Fits plan s (state_of old.world s) keeps_here.rung_for d) r.rings keeps_here.fits
+    within = subst (λ (d : Doing). Fits plan old.is_open s (state_of old.world s) keeps_here.rung_for d) r.rings keeps_here.fits
 
     abbrev rung_end : ℕ
     rung_end = neighbour_at plan s r.i
@@ -232,7 +232,7 @@ module _ (plan : SeenPlan) (is_plan : IsPlan plan) (old new : Run) (keeps : RunK
         r.rings (ap (λ (b : Bool). after_ringing b r.i) h) w.1 w.2 (ring_wakes r.i end_number r.kind w.0)) keeps.waking
 
     abbrev between : Run
-    between = record { world = old.world; threads = slice_set old.threads s ringer }
+    between = record old { threads = slice_set old.threads s ringer }
 
     -- the neighbour is as it was while the ringer has gone on
     end_between : thread_of between rung_end ≡ thread_of old rung_end
@@ -266,7 +266,7 @@ module _ (plan : SeenPlan) (is_plan : IsPlan plan) (old new : Run) (keeps : RunK
 
   module _ (h : WakesThread plan s old new) where
     wakes_within : h.i < length (edges_of plan s)
-    wakes_within = subst (λ (d : Doing). Fits plan s (state_of old.world s) keeps_here.rung_for d) h.wakes keeps_here.fits
+    wakes_within = subst (λ (d : Doing). Fits plan old.is_open s (state_of old.world s) keeps_here.rung_for d) h.wakes keeps_here.fits
 
     abbrev sleeping : ℕ
     sleeping = neighbour_at plan s h.i
@@ -314,7 +314,7 @@ module _ (plan : SeenPlan) (is_plan : IsPlan plan) (old new : Run) (keeps : RunK
       places = was.places;
       numbers = was.numbers ∙ ap (λ (numbers : List ℕ). numbers ++ (thread_of old t).bell) silent ∙ ap rings_left (sym is);
       links = λ i of_t. wakes_link t i was.rung_for of_t (was.links i of_t);
-      fits = subst (λ (thread : Thread). Fits plan t (state_of new.world t) was.rung_for thread.doing) (sym is) tt;
+      fits = subst (λ (thread : Thread). Fits plan new.is_open t (state_of new.world t) was.rung_for thread.doing) (sym is) tt;
     }
 
     pub keeps_woken : RunKeeps plan new
@@ -326,7 +326,7 @@ module _ (plan : SeenPlan) (is_plan : IsPlan plan) (old new : Run) (keeps : RunK
         | inl same ↦ subst (KeepsBell plan new) (sym same) (goes_on_now s keeps_here (ap places_heard h.wakes) waker_is)
         | inr not_s ↦ elim (cases_eq t sleeping) [
           | inl same ↦ subst (KeepsBell plan new) (sym same) (goes_on_now sleeping (keeps.sites sleeping sleeping_site) (ap places_heard h.woken) awake_is)
-          | inr not_there ↦ site_stays plan old new t (two_other old new s sleeping waker awake h.threads apart t not_s not_there) (ap (λ (world : WorldState). state_of world t) h.world) (wakes_link t) (keeps.sites t is_t)
+          | inr not_there ↦ site_stays plan old new t (two_other old new s sleeping waker awake h.threads apart t not_s not_there) (ap (λ (world : WorldState). state_of world t) h.world) h.as_open (wakes_link t) (keeps.sites t is_t)
         ]
       ];
       waking = two_waking plan is_plan old new s h.i wakes_within waker awake h.threads has_here has_sleeping

@@ -73,9 +73,9 @@ at_work doing bell = record { doing = doing; bell = bell }
 
 -- a run of the two workers in which the higher site asked for the fork, rang, and fell asleep
 abbrev pub asleep_run : Run
-asleep_run = record { world = asked_world; threads = at_work GoesOn (0 ∷ []) ∷ at_work (Sleeps (wants_by_lists two_workers 1 (state_of asked_world 1))) [] ∷ [] }
+asleep_run = record { world = asked_world; threads = at_work GoesOn (0 ∷ []) ∷ at_work (Sleeps (wants_by_lists two_workers 1 (state_of asked_world 1))) [] ∷ []; is_open = false }
 
 -- the same run after the lower site, which is polite, grew hungry, took the Request, gave the fork, rang, and woke the
 -- higher one
 abbrev pub woken_run : Run
-woken_run = record { world = gave_world; threads = at_work GoesOn [] ∷ at_work GoesOn (0 ∷ []) ∷ [] }
+woken_run = record { world = gave_world; threads = at_work GoesOn [] ∷ at_work GoesOn (0 ∷ []) ∷ []; is_open = false }

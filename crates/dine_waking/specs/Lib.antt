@@ -5,6 +5,7 @@ pub mod Runs
 pub mod Examples
 pub mod Manners
 pub mod Patience
+pub mod OpenRuns
 pub mod MannerExamples
 pub mod Mistakes
 pub mod Code

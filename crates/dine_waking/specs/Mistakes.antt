@@ -81,6 +81,7 @@ hung_run rings = record {
   world = hung_world;
   threads = at_work (Sleeps (wants_by_lists two_workers 0 (state_of hung_world 0))) []
       ∷ at_work (Sleeps (wants_by_lists two_workers 1 (state_of hung_world 1))) rings ∷ [];
+  is_open = false;
 }
 
 -- n steps of polite sites lead from one moment of a run to the other, as in `LeadsInManner`. The mistake: a site that

@@ -1,5 +1,6 @@
 -- A run on threads, as far as letters and bells go: the world of its sites, and what the thread of each site is at. The
--- thread of any site may do the next step.
+-- thread of any site may do the next step. In an open run the sites are on call: each may think on although it has jobs
+-- left, and those outside may wake it.
 use Rattle.std.specs.Prelude.{◌≡◌, ◌⊎◌, ℕ, zero, suc, ◌<◌, ◌≤◌, ◌==◌, ◌||◌, Bool, true, false, List, [], ◌∷◌, ◌++◌, count_by, replicate, slice_index_or, slice_set, Option, Some, None, if◌then◌else◌}
 use Rattle.dine_graph.specs.Plan.{SeenPlan, site_count}
 use Rattle.dine_rules.specs.declared.events.EventKind.{EventKind}
@@ -35,10 +36,11 @@ pub record Thread : Type 0 where
   pub doing : Doing
   pub bell : List ℕ
 
--- a run at one moment: the world, and the thread of each site
+-- a run at one moment: the world, the thread of each site, and whether the run is open
 pub record Run : Type 0 where
   pub world : WorldState
   pub threads : List Thread
+  pub is_open : Bool
 
 -- a thread before its first step
 abbrev pub fresh_thread : Thread
@@ -48,9 +50,13 @@ fresh_thread = record { doing = GoesOn; bell = [] }
 abbrev pub thread_of : Run → ℕ → Thread
 thread_of run s = slice_index_or run.threads s fresh_thread
 
--- a run at its start
+-- a run at its start, open or not
+abbrev pub first_moment : Bool → SeenPlan → Run
+first_moment is_open plan = record { world = start plan; threads = replicate (site_count plan) fresh_thread; is_open = is_open }
+
+-- a run at its start that is not open
 abbrev pub start_run : SeenPlan → Run
-start_run plan = record { world = start plan; threads = replicate (site_count plan) fresh_thread }
+start_run plan = first_moment false plan
 
 -- what a thread is at after an event of its site: it has to ring if the event put a letter
 abbrev pub doing_after : EventKind → Doing
@@ -82,12 +88,18 @@ takes_letters None = true
 takes_letters (Some event.Begin) = true
 takes_letters (Some kind) = false
 
+-- whether a site may think on, by the same event: if it is to grow hungry, and the run is open
+abbrev pub may_think_on : Bool → Option EventKind → Bool
+may_think_on is_open (Some event.Hungry) = is_open
+may_think_on is_open next = false
+
 -- The site does the event that it would do first without a letter.
 pub record Acts (plan : SeenPlan) (s : ℕ) (old new : Run) : Type 0 where
   pub goes_on : (thread_of old s).doing ≡ GoesOn
   pub kind : EventKind
   pub next : next_event plan s (state_of old.world s) ≡ Some kind
   pub world : world_after plan old.world (record { site = s; kind = kind }) ≡ Some new.world
+  pub as_open : new.is_open ≡ old.is_open
   pub threads : new.threads ≡ slice_set old.threads s (record { doing = doing_after kind; bell = (thread_of old s).bell })
 
 -- the number of the site at the bell of its neighbour at place i: the place there of the same edge
@@ -105,6 +117,7 @@ pub record RingsBell (plan : SeenPlan) (s : ℕ) (old new : Run) : Type 0 where
   pub anyway : Bool
   pub rings : (thread_of old s).doing ≡ HasToRing i kind
   pub world : new.world ≡ old.world
+  pub as_open : new.is_open ≡ old.is_open
   pub threads : new.threads ≡ slice_set
       (slice_set old.threads s (record {
         doing = after_ringing (is_woken_by anyway (number_there plan s i) kind (thread_of old (neighbour_at plan s i)).doing) i;
@@ -118,6 +131,7 @@ pub record WakesThread (plan : SeenPlan) (s : ℕ) (old new : Run) : Type 0 wher
   pub wakes : (thread_of old s).doing ≡ HasToWake i
   pub woken : (thread_of old (neighbour_at plan s i)).doing ≡ IsToBeWoken (number_there plan s i)
   pub world : new.world ≡ old.world
+  pub as_open : new.is_open ≡ old.is_open
   pub threads : new.threads ≡ slice_set (slice_set old.threads s (record { doing = GoesOn; bell = (thread_of old s).bell }))
       (neighbour_at plan s i) (record { doing = GoesOn; bell = (thread_of old (neighbour_at plan s i)).bell })
 
@@ -128,13 +142,14 @@ rings_for i = count_by (λ k. k == i)
 -- The site hears a ring of its bell: any one that is the first for its place.
 pub record HearsRing (plan : SeenPlan) (s : ℕ) (old new : Run) : Type 0 where
   pub goes_on : (thread_of old s).doing ≡ GoesOn
-  pub turn : takes_letters (next_event plan s (state_of old.world s)) ≡ true
+  pub turn : (takes_letters (next_event plan s (state_of old.world s)) || may_think_on old.is_open (next_event plan s (state_of old.world s))) ≡ true
   pub i : ℕ
   pub front : List ℕ
   pub rest : List ℕ
   pub bell : (thread_of old s).bell ≡ front ++ i ∷ rest
   pub first : rings_for i front ≡ 0
   pub world : new.world ≡ old.world
+  pub as_open : new.is_open ≡ old.is_open
   pub threads : new.threads ≡ slice_set old.threads s (record { doing = HasToTake i; bell = front ++ rest })
 
 -- The site takes the next letter at the place for which it heard a ring.
@@ -142,20 +157,36 @@ pub record TakesLetter (plan : SeenPlan) (s : ℕ) (old new : Run) : Type 0 wher
   pub i : ℕ
   pub takes : (thread_of old s).doing ≡ HasToTake i
   pub world : world_after plan old.world (record { site = s; kind = event.Take i }) ≡ Some new.world
+  pub as_open : new.is_open ≡ old.is_open
   pub threads : new.threads ≡ slice_set old.threads s (record { doing = GoesOn; bell = (thread_of old s).bell })
 
--- The site falls asleep: it can do nothing without a letter, and it has not finished. Each ring that is left is the
--- only one for its place, and the letter there can be put off until the next meal.
+-- the site may sleep, by the event that it would do first without a letter: if there is none, or if it is to grow
+-- hungry, and the run is open
+abbrev pub MaySleepBefore : Bool → Option EventKind → Type 0
+MaySleepBefore is_open next = (next ≡ None) ⊎ ((is_open ≡ true) × (next ≡ Some event.Hungry))
+
+-- The site falls asleep: it can do nothing without a letter, or thinks on, and it has not finished. Each ring that is
+-- left is the only one for its place, and the letter there can be put off until the next meal.
 pub record FallsAsleep (plan : SeenPlan) (s : ℕ) (old new : Run) : Type 0 where
   pub goes_on : (thread_of old s).doing ≡ GoesOn
-  pub idle : next_event plan s (state_of old.world s) ≡ None
+  pub idle : MaySleepBefore old.is_open (next_event plan s (state_of old.world s))
   pub unfinished : has_finished plan s (state_of old.world s) ≡ false
   pub put_off : (i : ℕ) → 0 < rings_for i (thread_of old s).bell → can_put_off_by_lists plan s (state_of old.world s) i ≡ true
   pub once : (i : ℕ) → rings_for i (thread_of old s).bell ≤ 1
   pub world : new.world ≡ old.world
+  pub as_open : new.is_open ≡ old.is_open
   pub threads : new.threads ≡ slice_set old.threads s (record { doing = Sleeps (wants_by_lists plan s (state_of old.world s)); bell = (thread_of old s).bell })
 
--- one step of the thread of a site
+-- Somebody outside rings the doorbell of the site, which sleeps. This is in open runs alone.
+pub record IsCalled (plan : SeenPlan) (s : ℕ) (old new : Run) : Type 0 where
+  pub is_open : old.is_open ≡ true
+  pub wants : SeenWants
+  pub sleeps : (thread_of old s).doing ≡ Sleeps wants
+  pub world : new.world ≡ old.world
+  pub as_open : new.is_open ≡ old.is_open
+  pub threads : new.threads ≡ slice_set old.threads s (record { doing = GoesOn; bell = (thread_of old s).bell })
+
+-- one step of the thread of a site, or at its doorbell
 pub data ThreadStep (plan : SeenPlan) (s : ℕ) (old new : Run) : Type 0 where
   ByActing : Acts plan s old new → ThreadStep plan s old new
   ByRinging : RingsBell plan s old new → ThreadStep plan s old new
@@ -163,6 +194,7 @@ pub data ThreadStep (plan : SeenPlan) (s : ℕ) (old new : Run) : Type 0 where
   ByHearing : HearsRing plan s old new → ThreadStep plan s old new
   ByTaking : TakesLetter plan s old new → ThreadStep plan s old new
   BySleeping : FallsAsleep plan s old new → ThreadStep plan s old new
+  ByDoorbell : IsCalled plan s old new → ThreadStep plan s old new
 
 -- one step of a run: some site does it
 pub record RunStep (plan : SeenPlan) (old new : Run) : Type 0 where

@@ -1,6 +1,6 @@
 //! Laws on how sites wake one another. Each function does nothing: its contract is the law.
 
-ghost use Rattle.std.specs.Prelude.{◌≡◌, ◌<◌, ◌≤◌, ◌+◌, ◌*◌, ◌==◌, ◌⊎◌, ℕ, List, [], ◌∷◌, count_by};
+ghost use Rattle.std.specs.Prelude.{◌≡◌, ◌<◌, ◌≤◌, ◌+◌, ◌*◌, ◌==◌, ◌⊎◌, ℕ, Bool, List, [], ◌∷◌, count_by};
 ghost use Rattle.std.specs.Prelude.{false, length, true};
 ghost use Rattle.dine_graph.specs.Plan.{IsPlan, SeenPlan, edges_of, site_count};
 ghost use Rattle.dine_rules.specs.Bound.{bound_of};
@@ -15,7 +15,7 @@ ghost use Rattle.dine_waking.specs.Examples.{woken_run};
 ghost use Rattle.dine_site.specs.Standing.{has_finished};
 ghost use Rattle.dine_waking.specs.Runs.{GoesOnForever, HasToRing, HasToWake, IsStuck, IsToBeWoken, LeadsBySteps};
 ghost use Rattle.dine_waking.specs.Runs.{Run, RunHasEnded, RunStep, has_yet_to_ring, number_there, rings_left};
-ghost use Rattle.dine_waking.specs.Runs.{start_run, thread_of};
+ghost use Rattle.dine_waking.specs.Runs.{first_moment, start_run, thread_of};
 ghost use Rattle.dine_waking.specs.Mistakes.{ActsUnheard, HangsBy, RingsInVain, SleepsOverLastFork, SleepsOverRings};
 ghost use Rattle.dine_waking.specs.Mistakes.{hung_run};
 ghost use Rattle.dine_waking.specs.Sleeping.{AllSleepWell, SleepsWell};
@@ -23,6 +23,7 @@ ghost use Rattle.dine_waking.specs.Sleeping.{AllSleepWell, SleepsWell};
 mod code;
 mod manners;
 mod open_doors;
+mod open_runs;
 mod patience;
 
 pub use code::{bells_note_rings_as_runs_do, sites_take_turns_as_runs_do, turns_are_steps_of_runs};
@@ -34,6 +35,9 @@ pub use manners::{
 };
 pub use open_doors::{
     called_sites_are_rung_for, closed_doors_end_the_run, worlds_at_rest_have_served,
+};
+pub use open_runs::{
+    open_runs_are_runs_with_doors, open_runs_at_rest_have_served, open_runs_go_on,
 };
 pub use patience::{
     a_patient_site_may_begin_as_many_meals_as_its_patience, patient_sites_begin_few_meals,
@@ -54,15 +58,15 @@ pub fn worlds_asleep_are_complete()
 
 /// At each moment of a run the world is one that events reach from the start.
 pub fn runs_go_through_reached_worlds()
-    ensures { (plan : SeenPlan) (n : ℕ) (run : Run) → IsPlan plan → LeadsBySteps plan n (start_run plan) run
+    ensures { (plan : SeenPlan) (is_open : Bool) (n : ℕ) (run : Run) → IsPlan plan → LeadsBySteps plan n (first_moment is_open plan) run
         → (events : List Event) × Reaches plan events run.world }
 {}
 
 /// At each moment of a run the letters in the link to a site at a place are as many as the rings for that place that
 /// the site has left, and one more if the neighbour has put a letter there and has yet to ring for it.
 pub fn each_letter_is_rung_for()
-    ensures { (plan : SeenPlan) (n : ℕ) (run : Run) (s i : ℕ) → IsPlan plan
-        → LeadsBySteps plan n (start_run plan) run → s < site_count plan → i < length (edges_of plan s)
+    ensures { (plan : SeenPlan) (is_open : Bool) (n : ℕ) (run : Run) (s i : ℕ) → IsPlan plan
+        → LeadsBySteps plan n (first_moment is_open plan) run → s < site_count plan → i < length (edges_of plan s)
         → length (queue_to plan run.world s i)
         ≡ count_by (λ k. k == i) (rings_left (thread_of run s))
         + has_yet_to_ring (thread_of run (neighbour_at plan s i)).doing
@@ -102,10 +106,10 @@ pub fn runs_can_end()
 /// A bell never holds more than four rings for each place of its site. When a site rings, the bell of its neighbour
 /// holds fewer.
 pub fn no_bell_is_full()
-    ensures few { (plan : SeenPlan) (n : ℕ) (run : Run) (s : ℕ) → IsPlan plan → LeadsBySteps plan n (start_run plan) run
+    ensures few { (plan : SeenPlan) (is_open : Bool) (n : ℕ) (run : Run) (s : ℕ) → IsPlan plan → LeadsBySteps plan n (first_moment is_open plan) run
         → s < site_count plan → length (thread_of run s).bell ≤ 4 * length (edges_of plan s) }
-    ensures room { (plan : SeenPlan) (n : ℕ) (run : Run) (s i : ℕ) (kind : LetterKind) → IsPlan plan
-        → LeadsBySteps plan n (start_run plan) run → s < site_count plan → (thread_of run s).doing ≡ HasToRing i kind
+    ensures room { (plan : SeenPlan) (is_open : Bool) (n : ℕ) (run : Run) (s i : ℕ) (kind : LetterKind) → IsPlan plan
+        → LeadsBySteps plan n (first_moment is_open plan) run → s < site_count plan → (thread_of run s).doing ≡ HasToRing i kind
         → length (thread_of run (neighbour_at plan s i)).bell < 4 * length (edges_of plan (neighbour_at plan s i)) }
 {}
 
@@ -139,23 +143,23 @@ pub fn one_mistake_makes_a_run_hang()
 /// A site that has finished is left alone: at each moment of a run it has no ring left, and no site has yet to ring for
 /// it.
 pub fn finished_sites_are_left_alone()
-    ensures silent { (plan : SeenPlan) (n : ℕ) (run : Run) (s : ℕ) → IsPlan plan
-        → LeadsBySteps plan n (start_run plan) run → s < site_count plan
+    ensures silent { (plan : SeenPlan) (is_open : Bool) (n : ℕ) (run : Run) (s : ℕ) → IsPlan plan
+        → LeadsBySteps plan n (first_moment is_open plan) run → s < site_count plan
         → has_finished plan s (state_of run.world s) ≡ true → rings_left (thread_of run s) ≡ [] }
-    ensures not_rung { (plan : SeenPlan) (n : ℕ) (run : Run) (s i : ℕ) (kind : LetterKind) → IsPlan plan
-        → LeadsBySteps plan n (start_run plan) run → s < site_count plan → (thread_of run s).doing ≡ HasToRing i kind
+    ensures not_rung { (plan : SeenPlan) (is_open : Bool) (n : ℕ) (run : Run) (s i : ℕ) (kind : LetterKind) → IsPlan plan
+        → LeadsBySteps plan n (first_moment is_open plan) run → s < site_count plan → (thread_of run s).doing ≡ HasToRing i kind
         → has_finished plan (neighbour_at plan s i) (state_of run.world (neighbour_at plan s i)) ≡ false }
 {}
 
 /// A place at which a site has taken Close is left alone: at each moment of a run the site has no ring left for it, and
 /// the neighbour there has yet to ring for none.
 pub fn closed_places_are_left_alone()
-    ensures silent { (plan : SeenPlan) (n : ℕ) (run : Run) (s i : ℕ) → IsPlan plan
-        → LeadsBySteps plan n (start_run plan) run → s < site_count plan → i < length (edges_of plan s)
+    ensures silent { (plan : SeenPlan) (is_open : Bool) (n : ℕ) (run : Run) (s i : ℕ) → IsPlan plan
+        → LeadsBySteps plan n (first_moment is_open plan) run → s < site_count plan → i < length (edges_of plan s)
         → has_close (traffic_at (state_of run.world s) i).taken ≡ true
         → count_by (λ k. k == i) (rings_left (thread_of run s)) ≡ 0 }
-    ensures not_rung { (plan : SeenPlan) (n : ℕ) (run : Run) (s i : ℕ) → IsPlan plan
-        → LeadsBySteps plan n (start_run plan) run → s < site_count plan → i < length (edges_of plan s)
+    ensures not_rung { (plan : SeenPlan) (is_open : Bool) (n : ℕ) (run : Run) (s i : ℕ) → IsPlan plan
+        → LeadsBySteps plan n (first_moment is_open plan) run → s < site_count plan → i < length (edges_of plan s)
         → has_close (traffic_at (state_of run.world s) i).taken ≡ true
         → has_yet_to_ring (thread_of run (neighbour_at plan s i)).doing
         (place_of plan (neighbour_at plan s i) (edge_at plan s i)) ≡ 0 }
@@ -164,11 +168,11 @@ pub fn closed_places_are_left_alone()
 /// Waking is exact. If a site has to wake a neighbour, the neighbour sleeps and is to be woken by this site. If a
 /// thread is to be woken, the neighbour that noted this has yet to do so.
 pub fn each_woken_thread_has_one_waker()
-    ensures found { (plan : SeenPlan) (n : ℕ) (run : Run) (s i : ℕ) → IsPlan plan
-        → LeadsBySteps plan n (start_run plan) run → s < site_count plan → (thread_of run s).doing ≡ HasToWake i
+    ensures found { (plan : SeenPlan) (is_open : Bool) (n : ℕ) (run : Run) (s i : ℕ) → IsPlan plan
+        → LeadsBySteps plan n (first_moment is_open plan) run → s < site_count plan → (thread_of run s).doing ≡ HasToWake i
         → (thread_of run (neighbour_at plan s i)).doing ≡ IsToBeWoken (number_there plan s i) }
-    ensures woken { (plan : SeenPlan) (n : ℕ) (run : Run) (s i : ℕ) → IsPlan plan
-        → LeadsBySteps plan n (start_run plan) run → s < site_count plan → i < length (edges_of plan s)
+    ensures woken { (plan : SeenPlan) (is_open : Bool) (n : ℕ) (run : Run) (s i : ℕ) → IsPlan plan
+        → LeadsBySteps plan n (first_moment is_open plan) run → s < site_count plan → i < length (edges_of plan s)
         → (thread_of run s).doing ≡ IsToBeWoken i
         → (thread_of run (neighbour_at plan s i)).doing ≡ HasToWake (number_there plan s i) }
 {}

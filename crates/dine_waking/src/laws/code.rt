@@ -28,7 +28,7 @@ ghost use Rattle.dine_waking.specs.Manners.{IsInManner};
 ghost use Rattle.dine_waking.specs.Runs.{Acts, ByHearing, Doing, FallsAsleep, GoesOn, HasToRing, HasToTake};
 ghost use Rattle.dine_waking.specs.Runs.{HasToWake, HearsRing, LeadsBySteps, RingsBell, Run, Sleeps, WakesThread};
 ghost use Rattle.dine_waking.specs.Runs.{after_ringing, doing_after, doing_rung, is_woken_by, number_there, rings_for};
-ghost use Rattle.dine_waking.specs.Runs.{start_run, takes_letters, thread_after_ring, thread_of};
+ghost use Rattle.dine_waking.specs.Runs.{first_moment, takes_letters, thread_after_ring, thread_of};
 
 /// A bell notes a ring as the step `RingsBell` of a run does: by `NotesRing`, which is the contract of the code, the
 /// ring wakes the thread exactly if the run says so, and the state after it is that of the thread after the step. The
@@ -74,8 +74,7 @@ pub fn sites_take_turns_as_runs_do()
 /// `bells_note_rings_as_runs_do` says. The wake is the step `WakesThread`, which each run allows then. A letter is
 /// heard for when `HearsRing` allows it, if its ring is the first of its place, also if it was put off. And if each
 /// ring that the bell has left is for a letter that can be put off, and the only one of its place, the thread may fall
-/// asleep as in `FallsAsleep`, with the wants that are in the log. The last three clauses are of sites that are not on
-/// call.
+/// asleep as in `FallsAsleep`, with the wants that are in the log. If the site is on call, the run has to be open.
 pub fn turns_are_steps_of_runs()
     ensures acts { (manner : Manner) (plan : SeenPlan) (s : ℕ) (old : Run) (memo : Memo) (step : Step) (woken : Bool)
         (kind : EventKind) (world : WorldState) → (thread_of old s).doing ≡ GoesOn
@@ -92,23 +91,26 @@ pub fn turns_are_steps_of_runs()
         (thread_after_ring anyway (number_there plan s i) kind (thread_of old (neighbour_at plan s i)))
         (with_thread s (record { doing = after_ringing woken i; bell = (thread_of old s).bell }) old))
         × (waking i woken ≡ wakes_due (after_ringing woken i)) }
-    ensures wakes { (plan : SeenPlan) (n : ℕ) (old : Run) (s i : ℕ) → IsPlan plan
-        → LeadsBySteps plan n (start_run plan) old → s < site_count plan → (thread_of old s).doing ≡ HasToWake i
+    ensures wakes { (plan : SeenPlan) (is_open : Bool) (n : ℕ) (old : Run) (s i : ℕ) → IsPlan plan
+        → LeadsBySteps plan n (first_moment is_open plan) old → s < site_count plan → (thread_of old s).doing ≡ HasToWake i
         → WakesThread plan s old (with_thread (neighbour_at plan s i)
         (record { doing = GoesOn; bell = (thread_of old (neighbour_at plan s i)).bell })
         (with_thread s (record { doing = GoesOn; bell = (thread_of old s).bell }) old)) }
     ensures hears { (manner : Manner) (plan : SeenPlan) (s : ℕ) (old : Run) (memo : Memo) (slept : Option Wants) (i : ℕ)
-        (letter : Letter) (front rest : List ℕ) → is_on_call manner ≡ false → (thread_of old s).doing ≡ GoesOn
+        (letter : Letter) (front rest : List ℕ) → (is_on_call manner ≡ true → old.is_open ≡ true)
+        → (thread_of old s).doing ≡ GoesOn
         → IsTurn manner plan s (state_of old.world s) memo (Takes slept i letter)
         → (thread_of old s).bell ≡ front ++ i ∷ rest → rings_for i front ≡ 0
         → HearsRing plan s old (with_thread s (record { doing = HasToTake i; bell = front ++ rest }) old) }
     ensures recalls { (manner : Manner) (plan : SeenPlan) (s : ℕ) (old : Run) (memo : Memo) (i : ℕ) (letter : Letter)
-        (front rest : List ℕ) → is_on_call manner ≡ false → (thread_of old s).doing ≡ GoesOn
+        (front rest : List ℕ) → (is_on_call manner ≡ true → old.is_open ≡ true)
+        → (thread_of old s).doing ≡ GoesOn
         → IsTurn manner plan s (state_of old.world s) memo (Recalls i letter)
         → (thread_of old s).bell ≡ front ++ i ∷ rest → rings_for i front ≡ 0
         → HearsRing plan s old (with_thread s (record { doing = HasToTake i; bell = front ++ rest }) old) }
     ensures sleeps { (manner : Manner) (plan : SeenPlan) (s : ℕ) (old : Run) (memo : Memo) (wants : Wants)
-        → is_on_call manner ≡ false → (thread_of old s).doing ≡ GoesOn
+        → (is_on_call manner ≡ true → old.is_open ≡ true)
+        → (thread_of old s).doing ≡ GoesOn
         → MaySleep manner plan s (state_of old.world s) memo wants
         → ((i : ℕ) → 0 < rings_for i (thread_of old s).bell
         → can_put_off_by_lists plan s (state_of old.world s) i ≡ true)

@@ -12,20 +12,20 @@ ghost use Rattle.dine_waking.specs.Examples.{two_sites};
 ghost use Rattle.dine_waking.specs.Manners.{HasRungForAll, HoldsCleanFork, HoldsDirtyFork, IsAsked, LeadsInManner};
 ghost use Rattle.dine_waking.specs.Manners.{MannerStep, WaitsForFork, checked_after, forks_given, meals_so_far};
 ghost use Rattle.dine_waking.specs.Mistakes.{LeadsByOneCheck};
-ghost use Rattle.dine_waking.specs.Runs.{RunHasEnded, LeadsBySteps, RingsBell, Run, number_there, start_run};
+ghost use Rattle.dine_waking.specs.Runs.{LeadsBySteps, RingsBell, Run, RunHasEnded, first_moment, number_there, start_run};
 
 /// A polite site lets a neighbour wait for one meal at most. Take a moment at which the neighbour has asked the site
 /// for a fork, and has rung. As long as the site has not given this fork, it begins at most one meal. It begins none if
 /// at that moment it held the fork, the fork was dirty, and the site had not checked its bell. For the bound of one
 /// meal it does not matter which sites had checked at that moment: each may have done so before rings came.
 pub fn polite_sites_begin_at_most_one_meal()
-    ensures one { (plan : SeenPlan) (is_polite checked checked_then : ℕ → Bool) (n m : ℕ) (old new : Run) (s i : ℕ)
-        → IsPlan plan → LeadsBySteps plan n (start_run plan) old → s < site_count plan → i < length (edges_of plan s)
+    ensures one { (plan : SeenPlan) (is_open : Bool) (is_polite checked checked_then : ℕ → Bool) (n m : ℕ) (old new : Run) (s i : ℕ)
+        → IsPlan plan → LeadsBySteps plan n (first_moment is_open plan) old → s < site_count plan → i < length (edges_of plan s)
         → is_polite s ≡ true → IsAsked plan old s i → HasRungForAll plan old s i
         → LeadsInManner plan is_polite m checked old checked_then new → forks_given new s i ≡ forks_given old s i
         → meals_so_far new s ≤ meals_so_far old s + 1 }
-    ensures none { (plan : SeenPlan) (is_polite checked checked_then : ℕ → Bool) (n m : ℕ) (old new : Run) (s i : ℕ)
-        → IsPlan plan → LeadsBySteps plan n (start_run plan) old → s < site_count plan → i < length (edges_of plan s)
+    ensures none { (plan : SeenPlan) (is_open : Bool) (is_polite checked checked_then : ℕ → Bool) (n m : ℕ) (old new : Run) (s i : ℕ)
+        → IsPlan plan → LeadsBySteps plan n (first_moment is_open plan) old → s < site_count plan → i < length (edges_of plan s)
         → is_polite s ≡ true → IsAsked plan old s i → HasRungForAll plan old s i → HoldsDirtyFork plan old s i
         → checked s ≡ false
         → LeadsInManner plan is_polite m checked old checked_then new → forks_given new s i ≡ forks_given old s i
@@ -35,8 +35,8 @@ pub fn polite_sites_begin_at_most_one_meal()
 /// A polite site that was asked gives, after one meal at most. Take such a moment, and a run in manners from there to
 /// an end. It comes to a step that gives the fork, and before this step the site begins at most one meal.
 pub fn polite_sites_give_after_at_most_one_meal()
-    ensures { (plan : SeenPlan) (is_polite checked checked_then : ℕ → Bool) (n m : ℕ) (old end : Run) (s i : ℕ)
-        → IsPlan plan → LeadsBySteps plan n (start_run plan) old → s < site_count plan → i < length (edges_of plan s)
+    ensures { (plan : SeenPlan) (is_open : Bool) (is_polite checked checked_then : ℕ → Bool) (n m : ℕ) (old end : Run) (s i : ℕ)
+        → IsPlan plan → LeadsBySteps plan n (first_moment is_open plan) old → s < site_count plan → i < length (edges_of plan s)
         → is_polite s ≡ true → IsAsked plan old s i → HasRungForAll plan old s i
         → LeadsInManner plan is_polite m checked old checked_then end → RunHasEnded plan end
         → (before : ℕ) × (checked_there : ℕ → Bool) × (between : Run) × (next : Run) × (behind : ℕ)
@@ -53,21 +53,21 @@ pub fn polite_sites_give_after_at_most_one_meal()
 /// that moment it held the fork, the fork was dirty, and the site had not checked its bell. And a site of any manner
 /// begins none from a moment on at which the neighbour holds the fork clean.
 pub fn polite_sites_overtake_at_most_once()
-    ensures once { (plan : SeenPlan) (is_polite checked checked_then : ℕ → Bool) (n m : ℕ) (old new : Run) (s i : ℕ)
-        → IsPlan plan → LeadsBySteps plan n (start_run plan) old → s < site_count plan → i < length (edges_of plan s)
+    ensures once { (plan : SeenPlan) (is_open : Bool) (is_polite checked checked_then : ℕ → Bool) (n m : ℕ) (old new : Run) (s i : ℕ)
+        → IsPlan plan → LeadsBySteps plan n (first_moment is_open plan) old → s < site_count plan → i < length (edges_of plan s)
         → is_polite s ≡ true → WaitsForFork plan old (neighbour_at plan s i) (number_there plan s i)
         → LeadsInManner plan is_polite m checked old checked_then new
         → meals_so_far new (neighbour_at plan s i) ≡ meals_so_far old (neighbour_at plan s i)
         → meals_so_far new s ≤ meals_so_far old s + 1 }
-    ensures never { (plan : SeenPlan) (is_polite checked checked_then : ℕ → Bool) (n m : ℕ) (old new : Run) (s i : ℕ)
-        → IsPlan plan → LeadsBySteps plan n (start_run plan) old → s < site_count plan → i < length (edges_of plan s)
+    ensures never { (plan : SeenPlan) (is_open : Bool) (is_polite checked checked_then : ℕ → Bool) (n m : ℕ) (old new : Run) (s i : ℕ)
+        → IsPlan plan → LeadsBySteps plan n (first_moment is_open plan) old → s < site_count plan → i < length (edges_of plan s)
         → is_polite s ≡ true → WaitsForFork plan old (neighbour_at plan s i) (number_there plan s i)
         → HoldsDirtyFork plan old s i → checked s ≡ false
         → LeadsInManner plan is_polite m checked old checked_then new
         → meals_so_far new (neighbour_at plan s i) ≡ meals_so_far old (neighbour_at plan s i)
         → meals_so_far new s ≡ meals_so_far old s }
-    ensures clean_first { (plan : SeenPlan) (n m : ℕ) (old new : Run) (s i : ℕ) → IsPlan plan
-        → LeadsBySteps plan n (start_run plan) old → s < site_count plan → i < length (edges_of plan s)
+    ensures clean_first { (plan : SeenPlan) (is_open : Bool) (n m : ℕ) (old new : Run) (s i : ℕ) → IsPlan plan
+        → LeadsBySteps plan n (first_moment is_open plan) old → s < site_count plan → i < length (edges_of plan s)
         → HoldsCleanFork plan old (neighbour_at plan s i) (number_there plan s i) → LeadsBySteps plan m old new
         → meals_so_far new (neighbour_at plan s i) ≡ meals_so_far old (neighbour_at plan s i)
         → meals_so_far new s ≡ meals_so_far old s }
@@ -76,8 +76,8 @@ pub fn polite_sites_overtake_at_most_once()
 /// A site waits for one meal of each polite neighbour at most. Take a moment at which the site holds the fork of each
 /// of its places clean, or waits for it. Until the site begins its next meal, each polite neighbour begins at most one.
 pub fn waiters_wait_for_one_meal_of_each_polite_neighbour()
-    ensures { (plan : SeenPlan) (is_polite checked checked_then : ℕ → Bool) (n m : ℕ) (old new : Run) (s : ℕ)
-        → IsPlan plan → LeadsBySteps plan n (start_run plan) old → s < site_count plan
+    ensures { (plan : SeenPlan) (is_open : Bool) (is_polite checked checked_then : ℕ → Bool) (n m : ℕ) (old new : Run) (s : ℕ)
+        → IsPlan plan → LeadsBySteps plan n (first_moment is_open plan) old → s < site_count plan
         → ((i : ℕ) → i < length (edges_of plan s) → HoldsCleanFork plan old s i ⊎ WaitsForFork plan old s i)
         → LeadsInManner plan is_polite m checked old checked_then new → meals_so_far new s ≡ meals_so_far old s
         → (i : ℕ) → i < length (edges_of plan s) → is_polite (neighbour_at plan s i) ≡ true
@@ -87,12 +87,12 @@ pub fn waiters_wait_for_one_meal_of_each_polite_neighbour()
 /// Nobody asks in vain, whatever the manners of the sites are: at the end of the run the site that was asked has given
 /// the fork, and the neighbour that asked has begun a meal since.
 pub fn nobody_asks_in_vain()
-    ensures given { (plan : SeenPlan) (n m : ℕ) (run end : Run) (s i : ℕ) → IsPlan plan
-        → LeadsBySteps plan n (start_run plan) run → s < site_count plan → i < length (edges_of plan s)
+    ensures given { (plan : SeenPlan) (is_open : Bool) (n m : ℕ) (run end : Run) (s i : ℕ) → IsPlan plan
+        → LeadsBySteps plan n (first_moment is_open plan) run → s < site_count plan → i < length (edges_of plan s)
         → IsAsked plan run s i → LeadsBySteps plan m run end → RunHasEnded plan end
         → forks_given run s i < forks_given end s i }
-    ensures eats { (plan : SeenPlan) (n m : ℕ) (run end : Run) (s i : ℕ) → IsPlan plan
-        → LeadsBySteps plan n (start_run plan) run → s < site_count plan → i < length (edges_of plan s)
+    ensures eats { (plan : SeenPlan) (is_open : Bool) (n m : ℕ) (run end : Run) (s i : ℕ) → IsPlan plan
+        → LeadsBySteps plan n (first_moment is_open plan) run → s < site_count plan → i < length (edges_of plan s)
         → IsAsked plan run s i → LeadsBySteps plan m run end → RunHasEnded plan end
         → meals_so_far run (neighbour_at plan s i) < meals_so_far end (neighbour_at plan s i) }
 {}
@@ -111,12 +111,12 @@ pub fn runs_in_manners_go_on_to_their_end()
 /// A site that has just rung for a Request has asked its neighbour there, and has rung for each letter that it put
 /// there. And it waits for the fork.
 pub fn a_ring_for_a_request_asks()
-    ensures asks { (plan : SeenPlan) (n : ℕ) (old new : Run) (s : ℕ) → IsPlan plan
-        → LeadsBySteps plan n (start_run plan) old → s < site_count plan → (ring : RingsBell plan s old new)
+    ensures asks { (plan : SeenPlan) (is_open : Bool) (n : ℕ) (old new : Run) (s : ℕ) → IsPlan plan
+        → LeadsBySteps plan n (first_moment is_open plan) old → s < site_count plan → (ring : RingsBell plan s old new)
         → ring.kind ≡ kind.Request → IsAsked plan new (neighbour_at plan s ring.i) (number_there plan s ring.i)
         × HasRungForAll plan new (neighbour_at plan s ring.i) (number_there plan s ring.i) }
-    ensures waits { (plan : SeenPlan) (n : ℕ) (old new : Run) (s : ℕ) → IsPlan plan
-        → LeadsBySteps plan n (start_run plan) old → s < site_count plan → (ring : RingsBell plan s old new)
+    ensures waits { (plan : SeenPlan) (is_open : Bool) (n : ℕ) (old new : Run) (s : ℕ) → IsPlan plan
+        → LeadsBySteps plan n (first_moment is_open plan) old → s < site_count plan → (ring : RingsBell plan s old new)
         → ring.kind ≡ kind.Request → WaitsForFork plan new s ring.i }
 {}
 

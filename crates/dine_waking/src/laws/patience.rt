@@ -9,20 +9,20 @@ ghost use Rattle.dine_waking.specs.MannerExamples.{rung_run, rung_too_late_run};
 ghost use Rattle.dine_waking.specs.Manners.{HasRungForAll, HoldsCleanFork, HoldsDirtyFork, IsAsked, LeadsInManner};
 ghost use Rattle.dine_waking.specs.Manners.{WaitsForFork, checked_after, forks_given, meals_so_far};
 ghost use Rattle.dine_waking.specs.Patience.{LeadsPatiently, PatientStep, skips_after};
-ghost use Rattle.dine_waking.specs.Runs.{LeadsBySteps, Run, RunHasEnded, number_there, start_run};
+ghost use Rattle.dine_waking.specs.Runs.{LeadsBySteps, Run, RunHasEnded, first_moment, number_there, start_run};
 
 /// A patient site lets a neighbour wait for as many meals as its patience, at most. Take a moment at which the
 /// neighbour has asked the site for a fork, and has rung. As long as the site has not given this fork, it begins at
 /// most so many meals. If at that moment it held the fork, the fork was dirty, and the site had not checked its bell,
 /// it begins only those that it is to begin without a check.
 pub fn patient_sites_begin_few_meals()
-    ensures few { (plan : SeenPlan) (patience skips : ℕ → ℕ) (checked : ℕ → Bool) (n m : ℕ) (old new : Run) (s i : ℕ)
-        → IsPlan plan → LeadsBySteps plan n (start_run plan) old → s < site_count plan → i < length (edges_of plan s)
+    ensures few { (plan : SeenPlan) (is_open : Bool) (patience skips : ℕ → ℕ) (checked : ℕ → Bool) (n m : ℕ) (old new : Run) (s i : ℕ)
+        → IsPlan plan → LeadsBySteps plan n (first_moment is_open plan) old → s < site_count plan → i < length (edges_of plan s)
         → 0 < patience s → skips s < patience s → IsAsked plan old s i → HasRungForAll plan old s i
         → LeadsPatiently plan patience m checked skips old new → forks_given new s i ≡ forks_given old s i
         → meals_so_far new s ≤ meals_so_far old s + patience s }
-    ensures unchecked { (plan : SeenPlan) (patience skips : ℕ → ℕ) (checked : ℕ → Bool) (n m : ℕ) (old new : Run)
-        (s i : ℕ) → IsPlan plan → LeadsBySteps plan n (start_run plan) old → s < site_count plan
+    ensures unchecked { (plan : SeenPlan) (is_open : Bool) (patience skips : ℕ → ℕ) (checked : ℕ → Bool) (n m : ℕ) (old new : Run)
+        (s i : ℕ) → IsPlan plan → LeadsBySteps plan n (first_moment is_open plan) old → s < site_count plan
         → i < length (edges_of plan s) → 0 < patience s → IsAsked plan old s i → HasRungForAll plan old s i
         → HoldsDirtyFork plan old s i → checked s ≡ false → LeadsPatiently plan patience m checked skips old new
         → forks_given new s i ≡ forks_given old s i → meals_so_far new s ≤ meals_so_far old s + skips s }
@@ -32,8 +32,8 @@ pub fn patient_sites_begin_few_meals()
 /// steps from there to an end. They come to a step that gives the fork, and before this step the site begins at most so
 /// many meals.
 pub fn patient_sites_give_after_few_meals()
-    ensures { (plan : SeenPlan) (patience skips : ℕ → ℕ) (checked : ℕ → Bool) (n m : ℕ) (old end : Run) (s i : ℕ)
-        → IsPlan plan → LeadsBySteps plan n (start_run plan) old → s < site_count plan → i < length (edges_of plan s)
+    ensures { (plan : SeenPlan) (is_open : Bool) (patience skips : ℕ → ℕ) (checked : ℕ → Bool) (n m : ℕ) (old end : Run) (s i : ℕ)
+        → IsPlan plan → LeadsBySteps plan n (first_moment is_open plan) old → s < site_count plan → i < length (edges_of plan s)
         → 0 < patience s → skips s < patience s → IsAsked plan old s i → HasRungForAll plan old s i
         → LeadsPatiently plan patience m checked skips old end → RunHasEnded plan end
         → (before : ℕ) × (checked_there : ℕ → Bool) × (skips_there : ℕ → ℕ) × (between : Run) × (next : Run)
@@ -50,15 +50,15 @@ pub fn patient_sites_give_after_few_meals()
 /// many. If at that moment it held the fork, the fork was dirty, and the site had not checked its bell, it begins only
 /// those that it is to begin without a check.
 pub fn patient_sites_overtake_few_times()
-    ensures few { (plan : SeenPlan) (patience skips : ℕ → ℕ) (checked : ℕ → Bool) (n m : ℕ) (old new : Run) (s i : ℕ)
-        → IsPlan plan → LeadsBySteps plan n (start_run plan) old → s < site_count plan → i < length (edges_of plan s)
+    ensures few { (plan : SeenPlan) (is_open : Bool) (patience skips : ℕ → ℕ) (checked : ℕ → Bool) (n m : ℕ) (old new : Run) (s i : ℕ)
+        → IsPlan plan → LeadsBySteps plan n (first_moment is_open plan) old → s < site_count plan → i < length (edges_of plan s)
         → 0 < patience s → skips s < patience s
         → WaitsForFork plan old (neighbour_at plan s i) (number_there plan s i)
         → LeadsPatiently plan patience m checked skips old new
         → meals_so_far new (neighbour_at plan s i) ≡ meals_so_far old (neighbour_at plan s i)
         → meals_so_far new s ≤ meals_so_far old s + patience s }
-    ensures unchecked { (plan : SeenPlan) (patience skips : ℕ → ℕ) (checked : ℕ → Bool) (n m : ℕ) (old new : Run)
-        (s i : ℕ) → IsPlan plan → LeadsBySteps plan n (start_run plan) old → s < site_count plan
+    ensures unchecked { (plan : SeenPlan) (is_open : Bool) (patience skips : ℕ → ℕ) (checked : ℕ → Bool) (n m : ℕ) (old new : Run)
+        (s i : ℕ) → IsPlan plan → LeadsBySteps plan n (first_moment is_open plan) old → s < site_count plan
         → i < length (edges_of plan s) → 0 < patience s
         → WaitsForFork plan old (neighbour_at plan s i) (number_there plan s i) → HoldsDirtyFork plan old s i
         → checked s ≡ false → LeadsPatiently plan patience m checked skips old new
@@ -70,8 +70,8 @@ pub fn patient_sites_overtake_few_times()
 /// holds the fork of each of its places clean, or waits for it. Until the site begins its next meal, each patient
 /// neighbour begins at most so many.
 pub fn waiters_wait_for_few_meals_of_each_patient_neighbour()
-    ensures { (plan : SeenPlan) (patience skips : ℕ → ℕ) (checked : ℕ → Bool) (n m : ℕ) (old new : Run) (s : ℕ)
-        → IsPlan plan → LeadsBySteps plan n (start_run plan) old → s < site_count plan
+    ensures { (plan : SeenPlan) (is_open : Bool) (patience skips : ℕ → ℕ) (checked : ℕ → Bool) (n m : ℕ) (old new : Run) (s : ℕ)
+        → IsPlan plan → LeadsBySteps plan n (first_moment is_open plan) old → s < site_count plan
         → ((i : ℕ) → i < length (edges_of plan s) → HoldsCleanFork plan old s i ⊎ WaitsForFork plan old s i)
         → LeadsPatiently plan patience m checked skips old new → meals_so_far new s ≡ meals_so_far old s
         → (i : ℕ) → i < length (edges_of plan s) → 0 < patience (neighbour_at plan s i)

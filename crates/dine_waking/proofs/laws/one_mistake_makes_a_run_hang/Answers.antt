@@ -23,14 +23,14 @@ oversleeper = at_work (Sleeps (with_one_fork_more its_fork)) []
 
 -- the ring for the fork, which does not wake it
 rings_too_early : RunStep two_workers (gave_fork oversleeper) (fork_rung (sleeper (0 ∷ [])))
-rings_too_early = lower_does (gave_fork oversleeper) (fork_rung (sleeper (0 ∷ []))) (ByRinging (record { i = 0; kind = kind.Fork; anyway = false; rings = refl; world = refl; threads = refl }))
+rings_too_early = lower_does (gave_fork oversleeper) (fork_rung (sleeper (0 ∷ []))) (ByRinging (record { i = 0; kind = kind.Fork; anyway = false; rings = refl; world = refl; as_open = refl; threads = refl }))
 
 -- the higher one, when it is awake
 abbrev awake : List ℕ → Thread
 awake rings = at_work GoesOn rings
 
 rings_at_waking : RunStep two_workers (gave_fork (awake [])) (fork_rung (awake (0 ∷ [])))
-rings_at_waking = lower_does (gave_fork (awake [])) (fork_rung (awake (0 ∷ []))) (ByRinging (record { i = 0; kind = kind.Fork; anyway = false; rings = refl; world = refl; threads = refl }))
+rings_at_waking = lower_does (gave_fork (awake [])) (fork_rung (awake (0 ∷ []))) (ByRinging (record { i = 0; kind = kind.Fork; anyway = false; rings = refl; world = refl; as_open = refl; threads = refl }))
 
 pub returns : goal.returns
 returns c = record {

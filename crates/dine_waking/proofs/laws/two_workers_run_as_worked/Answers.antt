@@ -11,10 +11,10 @@ abbrev rang_for_fork : Run
 rang_for_fork = moment low_gave asker (at_work (HasToWake 0) []) (at_work (IsToBeWoken 0) (0 ∷ []))
 
 rings_for_fork : RunStep two_workers (gave_fork (sleeper [])) rang_for_fork
-rings_for_fork = lower_does (gave_fork (sleeper [])) rang_for_fork (ByRinging (record { i = 0; kind = kind.Fork; anyway = false; rings = refl; world = refl; threads = refl }))
+rings_for_fork = lower_does (gave_fork (sleeper [])) rang_for_fork (ByRinging (record { i = 0; kind = kind.Fork; anyway = false; rings = refl; world = refl; as_open = refl; threads = refl }))
 
 wakes : RunStep two_workers rang_for_fork woken_run
-wakes = lower_does rang_for_fork woken_run (ByWaking (record { i = 0; wakes = refl; woken = refl; world = refl; threads = refl }))
+wakes = lower_does rang_for_fork woken_run (ByWaking (record { i = 0; wakes = refl; woken = refl; world = refl; as_open = refl; threads = refl }))
 
 pub returns : goal.returns
 returns c =

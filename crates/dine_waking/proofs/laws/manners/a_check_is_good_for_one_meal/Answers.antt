@@ -12,7 +12,7 @@ use Rattle.dine_waking.proofs.laws.manners.a_check_is_good_for_one_meal.Goals as
 
 -- two sites where no bell has a ring, and the lower thread goes on
 abbrev moment : LocalState → LocalState → Doing → Run
-moment low high higher = record { world = low ∷ high ∷ []; threads = at_work GoesOn [] ∷ at_work higher [] ∷ [] }
+moment low high higher = record { world = low ∷ high ∷ []; threads = at_work GoesOn [] ∷ at_work higher [] ∷ []; is_open = false }
 
 abbrev lower_hungry : Run
 lower_hungry = moment (state_in Hungry [] []) (state_in Thinking [] []) GoesOn
@@ -41,25 +41,25 @@ fourth = checked_after (two_sites 1 1) asked 1 third
 
 abbrev hungers : MannerStep (two_sites 1 1) (λ s. true) none (start_run (two_sites 1 1)) lower_hungry
 hungers = record {
-  step = record { site = 0; is_site = omega arith; step = ByActing (record { goes_on = refl; kind = event.Hungry; next = refl; world = refl; threads = refl }) };
+  step = record { site = 0; is_site = omega arith; step = ByActing (record { goes_on = refl; kind = event.Hungry; next = refl; world = refl; as_open = refl; threads = refl }) };
   in_manner = λ is. absurd cc;
 }
 
 abbrev higher_hungers : MannerStep (two_sites 1 1) (λ s. true) first lower_hungry both_hungry
 higher_hungers = record {
-  step = record { site = 1; is_site = omega arith; step = ByActing (record { goes_on = refl; kind = event.Hungry; next = refl; world = refl; threads = refl }) };
+  step = record { site = 1; is_site = omega arith; step = ByActing (record { goes_on = refl; kind = event.Hungry; next = refl; world = refl; as_open = refl; threads = refl }) };
   in_manner = λ is. absurd cc;
 }
 
 abbrev asks : MannerStep (two_sites 1 1) (λ s. true) second both_hungry asked
 asks = record {
-  step = record { site = 1; is_site = omega arith; step = ByActing (record { goes_on = refl; kind = event.Ask 0; next = refl; world = refl; threads = refl }) };
+  step = record { site = 1; is_site = omega arith; step = ByActing (record { goes_on = refl; kind = event.Ask 0; next = refl; world = refl; as_open = refl; threads = refl }) };
   in_manner = λ is. absurd cc;
 }
 
 abbrev rings : MannerStep (two_sites 1 1) (λ s. true) third asked rung_too_late_run
 rings = record {
-  step = record { site = 1; is_site = omega arith; step = ByRinging (record { i = 0; kind = kind.Request; anyway = false; rings = refl; world = refl; threads = refl }) };
+  step = record { site = 1; is_site = omega arith; step = ByRinging (record { i = 0; kind = kind.Request; anyway = false; rings = refl; world = refl; as_open = refl; threads = refl }) };
   in_manner = tt;
 }
 
@@ -68,7 +68,7 @@ lower_checked = refl
 
 abbrev begins : MannerStep (two_sites 1 1) (λ s. true) fourth rung_too_late_run eats_dirty_run
 begins = record {
-  step = record { site = 0; is_site = omega arith; step = ByActing (record { goes_on = refl; kind = event.Begin; next = refl; world = refl; threads = refl }) };
+  step = record { site = 0; is_site = omega arith; step = ByActing (record { goes_on = refl; kind = event.Begin; next = refl; world = refl; as_open = refl; threads = refl }) };
   in_manner = λ is. lower_checked;
 }
 

@@ -14,7 +14,7 @@ use Rattle.dine_waking.proofs.laws.manners.a_polite_site_may_begin_one_meal.Goal
 
 -- these two sites, with what their threads are at and their bells
 abbrev moment : LocalState → LocalState → Doing → List ℕ → Doing → List ℕ → Run
-moment low high lower bell higher rings = record { world = low ∷ high ∷ []; threads = at_work lower bell ∷ at_work higher rings ∷ [] }
+moment low high lower bell higher rings = record { world = low ∷ high ∷ []; threads = at_work lower bell ∷ at_work higher rings ∷ []; is_open = false }
 
 lower_does : (old new : Run) → ThreadStep (two_sites 1 1) 0 old new → RunStep (two_sites 1 1) old new
 lower_does old new step = record { site = 0; is_site = omega arith; step = step }
@@ -49,34 +49,34 @@ abbrev asked : Run
 asked = moment (state_in Hungry (fork_given_first ∷ request ∷ []) (request ∷ [])) asker (HasToRing 0 kind.Request) [] GoesOn (0 ∷ [])
 
 first_step : RunStep (two_sites 1 1) (start_run (two_sites 1 1)) hungry
-first_step = higher_does (start_run (two_sites 1 1)) hungry (ByActing (record { goes_on = refl; kind = event.Hungry; next = refl; world = refl; threads = refl }))
+first_step = higher_does (start_run (two_sites 1 1)) hungry (ByActing (record { goes_on = refl; kind = event.Hungry; next = refl; world = refl; as_open = refl; threads = refl }))
 
 asks : RunStep (two_sites 1 1) hungry (unrung_run 0)
-asks = higher_does hungry (unrung_run 0) (ByActing (record { goes_on = refl; kind = event.Ask 0; next = refl; world = refl; threads = refl }))
+asks = higher_does hungry (unrung_run 0) (ByActing (record { goes_on = refl; kind = event.Ask 0; next = refl; world = refl; as_open = refl; threads = refl }))
 
 rings : RunStep (two_sites 1 1) (unrung_run 0) (rung_run 0)
-rings = higher_does (unrung_run 0) (rung_run 0) (ByRinging (record { i = 0; kind = kind.Request; anyway = false; rings = refl; world = refl; threads = refl }))
+rings = higher_does (unrung_run 0) (rung_run 0) (ByRinging (record { i = 0; kind = kind.Request; anyway = false; rings = refl; world = refl; as_open = refl; threads = refl }))
 
 hungers : RunStep (two_sites 1 1) (rung_run 0) both_hungry
-hungers = lower_does (rung_run 0) both_hungry (ByActing (record { goes_on = refl; kind = event.Hungry; next = refl; world = refl; threads = refl }))
+hungers = lower_does (rung_run 0) both_hungry (ByActing (record { goes_on = refl; kind = event.Hungry; next = refl; world = refl; as_open = refl; threads = refl }))
 
 hears : RunStep (two_sites 1 1) both_hungry heard
-hears = lower_does both_hungry heard (ByHearing (record { goes_on = refl; turn = refl; i = 0; front = []; rest = []; bell = refl; first = refl; world = refl; threads = refl }))
+hears = lower_does both_hungry heard (ByHearing (record { goes_on = refl; turn = refl; i = 0; front = []; rest = []; bell = refl; first = refl; world = refl; as_open = refl; threads = refl }))
 
 takes : RunStep (two_sites 1 1) heard took
-takes = lower_does heard took (ByTaking (record { i = 0; takes = refl; world = refl; threads = refl }))
+takes = lower_does heard took (ByTaking (record { i = 0; takes = refl; world = refl; as_open = refl; threads = refl }))
 
 gives : RunStep (two_sites 1 1) took gave
-gives = lower_does took gave (ByActing (record { goes_on = refl; kind = event.Give 0; next = refl; world = refl; threads = refl }))
+gives = lower_does took gave (ByActing (record { goes_on = refl; kind = event.Give 0; next = refl; world = refl; as_open = refl; threads = refl }))
 
 rings_for_fork : RunStep (two_sites 1 1) gave rang
-rings_for_fork = lower_does gave rang (ByRinging (record { i = 0; kind = kind.Fork; anyway = false; rings = refl; world = refl; threads = refl }))
+rings_for_fork = lower_does gave rang (ByRinging (record { i = 0; kind = kind.Fork; anyway = false; rings = refl; world = refl; as_open = refl; threads = refl }))
 
 asks_back : RunStep (two_sites 1 1) rang asked
-asks_back = lower_does rang asked (ByActing (record { goes_on = refl; kind = event.Ask 0; next = refl; world = refl; threads = refl }))
+asks_back = lower_does rang asked (ByActing (record { goes_on = refl; kind = event.Ask 0; next = refl; world = refl; as_open = refl; threads = refl }))
 
 rings_back : RunStep (two_sites 1 1) asked asked_back_run
-rings_back = lower_does asked asked_back_run (ByRinging (record { i = 0; kind = kind.Request; anyway = false; rings = refl; world = refl; threads = refl }))
+rings_back = lower_does asked asked_back_run (ByRinging (record { i = 0; kind = kind.Request; anyway = false; rings = refl; world = refl; as_open = refl; threads = refl }))
 
 -- ---- up to the meal
 
@@ -100,19 +100,19 @@ abbrev took_request : Run
 took_request = moment low (state_in Hungry (request ∷ []) (fork_given_first ∷ request ∷ [])) GoesOn [] GoesOn []
 
 abbrev hears_fork : (checked : ℕ → Bool) → MannerStep (two_sites 1 1) (λ s. true) checked asked_back_run heard_fork
-hears_fork checked = politely checked asked_back_run heard_fork (ByHearing (record { goes_on = refl; turn = refl; i = 0; front = []; rest = 0 ∷ []; bell = refl; first = refl; world = refl; threads = refl })) tt
+hears_fork checked = politely checked asked_back_run heard_fork (ByHearing (record { goes_on = refl; turn = refl; i = 0; front = []; rest = 0 ∷ []; bell = refl; first = refl; world = refl; as_open = refl; threads = refl })) tt
 
 abbrev takes_fork : (checked : ℕ → Bool) → MannerStep (two_sites 1 1) (λ s. true) checked heard_fork took_fork
-takes_fork checked = politely checked heard_fork took_fork (ByTaking (record { i = 0; takes = refl; world = refl; threads = refl })) tt
+takes_fork checked = politely checked heard_fork took_fork (ByTaking (record { i = 0; takes = refl; world = refl; as_open = refl; threads = refl })) tt
 
 abbrev hears_request : (checked : ℕ → Bool) → MannerStep (two_sites 1 1) (λ s. true) checked took_fork heard_request
-hears_request checked = politely checked took_fork heard_request (ByHearing (record { goes_on = refl; turn = refl; i = 0; front = []; rest = []; bell = refl; first = refl; world = refl; threads = refl })) tt
+hears_request checked = politely checked took_fork heard_request (ByHearing (record { goes_on = refl; turn = refl; i = 0; front = []; rest = []; bell = refl; first = refl; world = refl; as_open = refl; threads = refl })) tt
 
 abbrev takes_request : (checked : ℕ → Bool) → MannerStep (two_sites 1 1) (λ s. true) checked heard_request took_request
-takes_request checked = politely checked heard_request took_request (ByTaking (record { i = 0; takes = refl; world = refl; threads = refl })) tt
+takes_request checked = politely checked heard_request took_request (ByTaking (record { i = 0; takes = refl; world = refl; as_open = refl; threads = refl })) tt
 
 abbrev begins : (checked : ℕ → Bool) → MannerStep (two_sites 1 1) (λ s. true) (checked_after (two_sites 1 1) heard_request 1 checked) took_request eats_first_run
-begins checked = politely (checked_after (two_sites 1 1) heard_request 1 checked) took_request eats_first_run (ByActing (record { goes_on = refl; kind = event.Begin; next = refl; world = refl; threads = refl })) (λ is. refl)
+begins checked = politely (checked_after (two_sites 1 1) heard_request 1 checked) took_request eats_first_run (ByActing (record { goes_on = refl; kind = event.Begin; next = refl; world = refl; as_open = refl; threads = refl })) (λ is. refl)
 
 pub returns : goal.returns
 returns c = record {

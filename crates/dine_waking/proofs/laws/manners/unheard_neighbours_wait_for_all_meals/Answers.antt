@@ -11,19 +11,19 @@ use Rattle.dine_waking.proofs.laws.manners.unheard_neighbours_wait_for_all_meals
 
 module _ (k : ℕ) where
   abbrev hungry : Run
-  hungry = record { world = state_in Thinking [] [] ∷ state_in Hungry [] [] ∷ []; threads = at_work GoesOn [] ∷ at_work GoesOn [] ∷ [] }
+  hungry = record { world = state_in Thinking [] [] ∷ state_in Hungry [] [] ∷ []; threads = at_work GoesOn [] ∷ at_work GoesOn [] ∷ []; is_open = false }
 
   higher_does : (old new : Run) → ThreadStep (two_sites k 1) 1 old new → RunStep (two_sites k 1) old new
   higher_does old new step = record { site = 1; is_site = omega arith; step = step }
 
   grows_hungry : RunStep (two_sites k 1) (start_run (two_sites k 1)) hungry
-  grows_hungry = higher_does (start_run (two_sites k 1)) hungry (ByActing (record { goes_on = refl; kind = event.Hungry; next = refl; world = refl; threads = refl }))
+  grows_hungry = higher_does (start_run (two_sites k 1)) hungry (ByActing (record { goes_on = refl; kind = event.Hungry; next = refl; world = refl; as_open = refl; threads = refl }))
 
   asks : RunStep (two_sites k 1) hungry (unrung_run 0)
-  asks = higher_does hungry (unrung_run 0) (ByActing (record { goes_on = refl; kind = event.Ask 0; next = refl; world = refl; threads = refl }))
+  asks = higher_does hungry (unrung_run 0) (ByActing (record { goes_on = refl; kind = event.Ask 0; next = refl; world = refl; as_open = refl; threads = refl }))
 
   rings : RunStep (two_sites k 1) (unrung_run 0) (rung_run 0)
-  rings = higher_does (unrung_run 0) (rung_run 0) (ByRinging (record { i = 0; kind = kind.Request; anyway = false; rings = refl; world = refl; threads = refl }))
+  rings = higher_does (unrung_run 0) (rung_run 0) (ByRinging (record { i = 0; kind = kind.Request; anyway = false; rings = refl; world = refl; as_open = refl; threads = refl }))
 
 pub returns : goal.returns
 returns c = record {

@@ -12,7 +12,7 @@ use Rattle.dine_waking.proofs.laws.patience.a_patient_site_may_begin_as_many_mea
 
 module _ (k : ℕ) where
   abbrev hungry : Run
-  hungry = record { world = state_in Thinking [] [] ∷ state_in Hungry [] [] ∷ []; threads = at_work GoesOn [] ∷ at_work GoesOn [] ∷ [] }
+  hungry = record { world = state_in Thinking [] [] ∷ state_in Hungry [] [] ∷ []; threads = at_work GoesOn [] ∷ at_work GoesOn [] ∷ []; is_open = false }
 
   -- both are hungry, and the higher one has yet to ring
   abbrev both_hungry : Run
@@ -24,14 +24,14 @@ module _ (k : ℕ) where
   four : 0 < k → LeadsBySteps (two_sites k 1) 4 (start_run (two_sites k 1)) rung_too_late_run
   four some = (
     hungry,
-    higher_does (start_run (two_sites k 1)) hungry (ByActing (record { goes_on = refl; kind = event.Hungry; next = refl; world = refl; threads = refl })),
+    higher_does (start_run (two_sites k 1)) hungry (ByActing (record { goes_on = refl; kind = event.Hungry; next = refl; world = refl; as_open = refl; threads = refl })),
     (
       unrung_run 0,
-      higher_does hungry (unrung_run 0) (ByActing (record { goes_on = refl; kind = event.Ask 0; next = refl; world = refl; threads = refl })),
+      higher_does hungry (unrung_run 0) (ByActing (record { goes_on = refl; kind = event.Ask 0; next = refl; world = refl; as_open = refl; threads = refl })),
       (
         both_hungry,
         (hungers k false [] (at_work (HasToRing 0 kind.Request) []) (λ s. false) 0 some).step,
-        (rung_too_late_run, higher_does both_hungry rung_too_late_run (ByRinging (record { i = 0; kind = kind.Request; anyway = false; rings = refl; world = refl; threads = refl })), refl),
+        (rung_too_late_run, higher_does both_hungry rung_too_late_run (ByRinging (record { i = 0; kind = kind.Request; anyway = false; rings = refl; world = refl; as_open = refl; threads = refl })), refl),
       ),
     ),
   )

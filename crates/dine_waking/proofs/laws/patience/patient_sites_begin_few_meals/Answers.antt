@@ -4,6 +4,6 @@ use Rattle.dine_waking.proofs.laws.patience.patient_sites_begin_few_meals.Goals 
 
 pub returns : goal.returns
 returns c = record {
-  few = λ plan patience skips checked n m old new s i is_plan leads is_site within some fits asked rung patiently given. patient_meals plan is_plan s i is_site within patience some m checked skips old new (reached_keeps plan is_plan n old leads) asked rung fits patiently given;
-  unchecked = λ plan patience skips checked n m old new s i is_plan leads is_site within some asked rung dirty yet patiently given. unchecked_meals plan is_plan s i is_site within patience some m checked skips old new (reached_keeps plan is_plan n old leads) asked rung dirty yet patiently given;
+  few = λ plan is_open patience skips checked n m old new s i is_plan leads is_site within some fits asked rung patiently given. patient_meals plan is_plan s i is_site within patience some m checked skips old new (reached_keeps plan is_plan is_open n old leads) asked rung fits patiently given;
+  unchecked = λ plan is_open patience skips checked n m old new s i is_plan leads is_site within some asked rung dirty yet patiently given. unchecked_meals plan is_plan s i is_site within patience some m checked skips old new (reached_keeps plan is_plan is_open n old leads) asked rung dirty yet patiently given;
 }
