@@ -36,3 +36,4 @@ pub mod Closed
 pub mod Agreement
 pub mod OpenRuns
 pub mod OpenProgress
+pub mod OpenBounds

@@ -199,6 +199,7 @@ module _ (plan : SeenPlan) (is_plan : IsPlan plan) (at : OpenRun) (keeps : OpenK
           record { run = at.run; doors = set_door at.doors s (record door { waits = true; thinker = at_door.Thinks }) },
           ToAsk (record {
             at_door = record { step = at_door.Asks busy is; others = set_other at.doors s (record door { waits = true; thinker = at_door.Thinks }); run = refl };
+            not_called = called;
             asks = tt;
             goes_on = on;
             next = hungry;

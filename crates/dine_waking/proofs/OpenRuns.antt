@@ -304,7 +304,7 @@ module _ (plan : SeenPlan) (is_plan : IsPlan plan) (old new : OpenRun) (keeps : 
 -- ---- many steps
 
 module _ (plan : SeenPlan) (is_plan : IsPlan plan) where
-  open_step_keeps : (old new : OpenRun) → OpenKeeps plan old → OpenStep plan old new → OpenKeeps plan new
+  pub open_step_keeps : (old new : OpenRun) → OpenKeeps plan old → OpenStep plan old new → OpenKeeps plan new
   open_step_keeps old new keeps one =
       let agree : (t : ℕ) → t < site_count plan → AgreesAt plan new t = elim one.step [
         | inl due ↦ agree_due plan is_plan old new keeps one.site one.is_site due

@@ -1,6 +1,6 @@
 -- Open runs whole: the threads of all sites, and at each site the door at which tasks come from outside. The thread of a
 -- site asks at its door before it grows hungry, and may sleep there.
-use Rattle.std.specs.Prelude.{◌≡◌, ◌⊎◌, ℕ, zero, suc, ◌+◌, ◌<◌, true, None, Some}
+use Rattle.std.specs.Prelude.{◌≡◌, ◌⊎◌, ℕ, zero, suc, ◌+◌, ◌<◌, true, false, None, Some}
 use Rattle.dine_graph.specs.Plan.{SeenPlan, site_count}
 use Rattle.dine_rules.specs.declared.events.EventKind.TheVariants as event
 use Rattle.dine_rules.specs.Local.{neighbour_at}
@@ -83,9 +83,10 @@ abbrev pub IsHearing : (old new : Door) → DoorStep old new → Type 0
 IsHearing old new (Hears rest rings is) = Unit {0}
 IsHearing old new step = ⊥
 
--- The site, which is to grow hungry, asks at its door whether it is called.
+-- The site, which is to grow hungry, asks at its door, and is not called. If it is, it grows hungry.
 pub record AsksAtDoor (plan : SeenPlan) (s : ℕ) (old new : OpenRun) : Type 0 where
   pub at_door : AtDoor s old new
+  pub not_called : is_called (old.doors s) ≡ false
   pub asks : IsAsking (old.doors s) (new.doors s) at_door.step
   pub goes_on : (thread_of old.run s).doing ≡ inside.GoesOn
   pub next : next_event plan s (state_of old.run.world s) ≡ Some event.Hungry
@@ -140,6 +141,24 @@ pub record OpenStep (plan : SeenPlan) (old new : OpenRun) : Type 0 where
 abbrev pub LeadsByOpenSteps : SeenPlan → ℕ → OpenRun → OpenRun → Type 0
 LeadsByOpenSteps plan zero old new = old ≡ new
 LeadsByOpenSteps plan (suc n) old new = (next : OpenRun) × OpenStep plan old next × LeadsByOpenSteps plan n next new
+
+-- 1 for a step that is due, and 0 for another one
+abbrev pub count_due : {D F : Type 0} → D ⊎ F → ℕ
+count_due one = elim one [ | inl due ↦ 1 | inr free ↦ 0 ]
+
+-- 0 for a step that is due, and 1 for another one
+abbrev pub count_free : {D F : Type 0} → D ⊎ F → ℕ
+count_free one = elim one [ | inl due ↦ 0 | inr free ↦ 1 ]
+
+-- how many of these steps are due
+abbrev pub due_steps : (plan : SeenPlan) (n : ℕ) (old new : OpenRun) → LeadsByOpenSteps plan n old new → ℕ
+due_steps plan zero old new leads = 0
+due_steps plan (suc n) old new leads = count_due leads.1.step + due_steps plan n leads.0 new leads.2
+
+-- how many of them are not
+abbrev pub free_steps : (plan : SeenPlan) (n : ℕ) (old new : OpenRun) → LeadsByOpenSteps plan n old new → ℕ
+free_steps plan zero old new leads = 0
+free_steps plan (suc n) old new leads = count_free leads.1.step + free_steps plan n leads.0 new leads.2
 
 -- An open run is at rest: each site has finished, or rests at its door, and nobody outside has to ring.
 pub record IsAtRest (plan : SeenPlan) (at : OpenRun) : Type 0 where

@@ -37,7 +37,8 @@ pub use open_doors::{
     called_sites_are_rung_for, closed_doors_end_the_run, worlds_at_rest_have_served,
 };
 pub use open_runs::{
-    open_runs_are_runs_with_doors, open_runs_at_rest_have_served, open_runs_go_on,
+    open_runs_are_bounded, open_runs_are_runs_with_doors, open_runs_at_rest_have_served,
+    open_runs_go_on,
 };
 pub use patience::{
     a_patient_site_may_begin_as_many_meals_as_its_patience, patient_sites_begin_few_meals,
