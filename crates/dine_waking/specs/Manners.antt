@@ -1,7 +1,7 @@
 -- Runs in which each site takes letters in its manner. It is polite or eager.
-use Rattle.std.specs.Prelude.{◌≡◌, ℕ, zero, suc, ◌==◌, ◌&&◌, ◌||◌, Bool, true, false, List, [], ◌∷◌, None, if◌then◌else◌}
+use Rattle.std.specs.Prelude.{◌≡◌, ℕ, zero, suc, ◌<◌, ◌==◌, ◌&&◌, ◌||◌, Bool, true, false, List, [], ◌∷◌, length, None, if◌then◌else◌}
 use Rattle.dine_token.specs.Log.{is_dirty}
-use Rattle.dine_graph.specs.Plan.{SeenPlan}
+use Rattle.dine_graph.specs.Plan.{IsPlan, SeenPlan, edges_of, site_count}
 use Rattle.dine_rules.specs.declared.events.EventKind.TheVariants as event
 use Rattle.dine_rules.specs.Holdings.{fork_at, hand_at, token_at}
 use Rattle.dine_rules.specs.Letters.{forks_in, requests_in}
@@ -10,7 +10,7 @@ use Rattle.dine_rules.specs.Local.{LocalState, neighbour_at, traffic_at}
 use Rattle.dine_rules.specs.World.{state_of}
 use Rattle.dine_site.specs.CoreWants.{can_put_off_by_lists}
 use Rattle.dine_site.specs.NextEvent.{next_event}
-use Rattle.dine_waking.specs.Runs.{ByActing, ByHearing, Doing, GoesOn, Run, RunStep, ThreadStep, has_yet_to_ring, number_there, thread_of}
+use Rattle.dine_waking.specs.Runs.{ByActing, ByHearing, Doing, GoesOn, LeadsBySteps, Run, RunStep, ThreadStep, first_moment, has_yet_to_ring, number_there, thread_of}
 
 -- the letters of these rings can be put off until the next meal of the site, in this state
 abbrev pub can_all_be_put_off : SeenPlan → ℕ → LocalState → List ℕ → Bool
@@ -61,6 +61,21 @@ IsAsked plan run s i = requests_in (queue_to plan run.world s i) ≡ 1
 -- the neighbour at place i has rung for each letter that it put there
 abbrev pub HasRungForAll : SeenPlan → Run → ℕ → ℕ → Type 0
 HasRungForAll plan run s i = has_yet_to_ring (thread_of run (neighbour_at plan s i)).doing (number_there plan s i) ≡ 0
+
+-- A moment of a run, open or not, and a place of a site.
+pub record IsPlaceIn (plan : SeenPlan) (run : Run) (s i : ℕ) : Type 0 where
+  pub is_plan : IsPlan plan
+  pub is_open : Bool
+  pub steps : ℕ
+  pub reached : LeadsBySteps plan steps (first_moment is_open plan) run
+  pub is_site : s < site_count plan
+  pub is_place : i < length (edges_of plan s)
+
+-- Such a moment at which the neighbour there has asked the site for the fork, and has rung.
+pub record HasAsked (plan : SeenPlan) (run : Run) (s i : ℕ) : Type 0 where
+  pub place : IsPlaceIn plan run s i
+  pub asks : IsAsked plan run s i
+  pub rang : HasRungForAll plan run s i
 
 -- the site holds the fork of place i, and the fork is dirty
 abbrev pub HoldsDirtyFork : SeenPlan → Run → ℕ → ℕ → Type 0

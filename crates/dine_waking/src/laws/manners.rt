@@ -9,8 +9,9 @@ ghost use Rattle.dine_rules.specs.declared.letters.LetterKind.TheVariants as kin
 ghost use Rattle.dine_waking.specs.MannerExamples.{asked_back_run, eats_dirty_run, eats_first_run, rung_run};
 ghost use Rattle.dine_waking.specs.MannerExamples.{fork_taken_run, rung_too_late_run, unrung_run};
 ghost use Rattle.dine_waking.specs.Examples.{two_sites};
-ghost use Rattle.dine_waking.specs.Manners.{HasRungForAll, HoldsCleanFork, HoldsDirtyFork, IsAsked, LeadsInManner};
-ghost use Rattle.dine_waking.specs.Manners.{MannerStep, WaitsForFork, checked_after, forks_given, meals_so_far};
+ghost use Rattle.dine_waking.specs.Manners.{HasAsked, HasRungForAll, HoldsCleanFork, HoldsDirtyFork, IsAsked, IsPlaceIn};
+ghost use Rattle.dine_waking.specs.Manners.{LeadsInManner, MannerStep, WaitsForFork, checked_after, forks_given};
+ghost use Rattle.dine_waking.specs.Manners.{meals_so_far};
 ghost use Rattle.dine_waking.specs.Mistakes.{LeadsByOneCheck};
 ghost use Rattle.dine_waking.specs.Runs.{LeadsBySteps, RingsBell, Run, RunHasEnded, first_moment, number_there, start_run};
 
@@ -19,15 +20,12 @@ ghost use Rattle.dine_waking.specs.Runs.{LeadsBySteps, RingsBell, Run, RunHasEnd
 /// at that moment it held the fork, the fork was dirty, and the site had not checked its bell. For the bound of one
 /// meal it does not matter which sites had checked at that moment: each may have done so before rings came.
 pub fn polite_sites_begin_at_most_one_meal()
-    ensures one { (plan : SeenPlan) (is_open : Bool) (is_polite checked checked_then : ℕ → Bool) (n m : ℕ) (old new : Run) (s i : ℕ)
-        → IsPlan plan → LeadsBySteps plan n (first_moment is_open plan) old → s < site_count plan → i < length (edges_of plan s)
-        → is_polite s ≡ true → IsAsked plan old s i → HasRungForAll plan old s i
+    ensures one { (plan : SeenPlan) (is_polite checked checked_then : ℕ → Bool) (m : ℕ) (old new : Run) (s i : ℕ)
+        → HasAsked plan old s i → is_polite s ≡ true
         → LeadsInManner plan is_polite m checked old checked_then new → forks_given new s i ≡ forks_given old s i
         → meals_so_far new s ≤ meals_so_far old s + 1 }
-    ensures none { (plan : SeenPlan) (is_open : Bool) (is_polite checked checked_then : ℕ → Bool) (n m : ℕ) (old new : Run) (s i : ℕ)
-        → IsPlan plan → LeadsBySteps plan n (first_moment is_open plan) old → s < site_count plan → i < length (edges_of plan s)
-        → is_polite s ≡ true → IsAsked plan old s i → HasRungForAll plan old s i → HoldsDirtyFork plan old s i
-        → checked s ≡ false
+    ensures none { (plan : SeenPlan) (is_polite checked checked_then : ℕ → Bool) (m : ℕ) (old new : Run) (s i : ℕ)
+        → HasAsked plan old s i → is_polite s ≡ true → HoldsDirtyFork plan old s i → checked s ≡ false
         → LeadsInManner plan is_polite m checked old checked_then new → forks_given new s i ≡ forks_given old s i
         → meals_so_far new s ≡ meals_so_far old s }
 {}
@@ -35,9 +33,8 @@ pub fn polite_sites_begin_at_most_one_meal()
 /// A polite site that was asked gives, after one meal at most. Take such a moment, and a run in manners from there to
 /// an end. It comes to a step that gives the fork, and before this step the site begins at most one meal.
 pub fn polite_sites_give_after_at_most_one_meal()
-    ensures { (plan : SeenPlan) (is_open : Bool) (is_polite checked checked_then : ℕ → Bool) (n m : ℕ) (old end : Run) (s i : ℕ)
-        → IsPlan plan → LeadsBySteps plan n (first_moment is_open plan) old → s < site_count plan → i < length (edges_of plan s)
-        → is_polite s ≡ true → IsAsked plan old s i → HasRungForAll plan old s i
+    ensures { (plan : SeenPlan) (is_polite checked checked_then : ℕ → Bool) (m : ℕ) (old end : Run) (s i : ℕ)
+        → HasAsked plan old s i → is_polite s ≡ true
         → LeadsInManner plan is_polite m checked old checked_then end → RunHasEnded plan end
         → (before : ℕ) × (checked_there : ℕ → Bool) × (between : Run) × (next : Run) × (behind : ℕ)
         × LeadsInManner plan is_polite before checked old checked_there between
@@ -53,21 +50,20 @@ pub fn polite_sites_give_after_at_most_one_meal()
 /// that moment it held the fork, the fork was dirty, and the site had not checked its bell. And a site of any manner
 /// begins none from a moment on at which the neighbour holds the fork clean.
 pub fn polite_sites_overtake_at_most_once()
-    ensures once { (plan : SeenPlan) (is_open : Bool) (is_polite checked checked_then : ℕ → Bool) (n m : ℕ) (old new : Run) (s i : ℕ)
-        → IsPlan plan → LeadsBySteps plan n (first_moment is_open plan) old → s < site_count plan → i < length (edges_of plan s)
-        → is_polite s ≡ true → WaitsForFork plan old (neighbour_at plan s i) (number_there plan s i)
+    ensures once { (plan : SeenPlan) (is_polite checked checked_then : ℕ → Bool) (m : ℕ) (old new : Run) (s i : ℕ)
+        → IsPlaceIn plan old s i → is_polite s ≡ true
+        → WaitsForFork plan old (neighbour_at plan s i) (number_there plan s i)
         → LeadsInManner plan is_polite m checked old checked_then new
         → meals_so_far new (neighbour_at plan s i) ≡ meals_so_far old (neighbour_at plan s i)
         → meals_so_far new s ≤ meals_so_far old s + 1 }
-    ensures never { (plan : SeenPlan) (is_open : Bool) (is_polite checked checked_then : ℕ → Bool) (n m : ℕ) (old new : Run) (s i : ℕ)
-        → IsPlan plan → LeadsBySteps plan n (first_moment is_open plan) old → s < site_count plan → i < length (edges_of plan s)
-        → is_polite s ≡ true → WaitsForFork plan old (neighbour_at plan s i) (number_there plan s i)
+    ensures never { (plan : SeenPlan) (is_polite checked checked_then : ℕ → Bool) (m : ℕ) (old new : Run) (s i : ℕ)
+        → IsPlaceIn plan old s i → is_polite s ≡ true
+        → WaitsForFork plan old (neighbour_at plan s i) (number_there plan s i)
         → HoldsDirtyFork plan old s i → checked s ≡ false
         → LeadsInManner plan is_polite m checked old checked_then new
         → meals_so_far new (neighbour_at plan s i) ≡ meals_so_far old (neighbour_at plan s i)
         → meals_so_far new s ≡ meals_so_far old s }
-    ensures clean_first { (plan : SeenPlan) (is_open : Bool) (n m : ℕ) (old new : Run) (s i : ℕ) → IsPlan plan
-        → LeadsBySteps plan n (first_moment is_open plan) old → s < site_count plan → i < length (edges_of plan s)
+    ensures clean_first { (plan : SeenPlan) (m : ℕ) (old new : Run) (s i : ℕ) → IsPlaceIn plan old s i
         → HoldsCleanFork plan old (neighbour_at plan s i) (number_there plan s i) → LeadsBySteps plan m old new
         → meals_so_far new (neighbour_at plan s i) ≡ meals_so_far old (neighbour_at plan s i)
         → meals_so_far new s ≡ meals_so_far old s }
@@ -87,12 +83,10 @@ pub fn waiters_wait_for_one_meal_of_each_polite_neighbour()
 /// Nobody asks in vain, whatever the manners of the sites are: at the end of the run the site that was asked has given
 /// the fork, and the neighbour that asked has begun a meal since.
 pub fn nobody_asks_in_vain()
-    ensures given { (plan : SeenPlan) (is_open : Bool) (n m : ℕ) (run end : Run) (s i : ℕ) → IsPlan plan
-        → LeadsBySteps plan n (first_moment is_open plan) run → s < site_count plan → i < length (edges_of plan s)
+    ensures given { (plan : SeenPlan) (m : ℕ) (run end : Run) (s i : ℕ) → IsPlaceIn plan run s i
         → IsAsked plan run s i → LeadsBySteps plan m run end → RunHasEnded plan end
         → forks_given run s i < forks_given end s i }
-    ensures eats { (plan : SeenPlan) (is_open : Bool) (n m : ℕ) (run end : Run) (s i : ℕ) → IsPlan plan
-        → LeadsBySteps plan n (first_moment is_open plan) run → s < site_count plan → i < length (edges_of plan s)
+    ensures eats { (plan : SeenPlan) (m : ℕ) (run end : Run) (s i : ℕ) → IsPlaceIn plan run s i
         → IsAsked plan run s i → LeadsBySteps plan m run end → RunHasEnded plan end
         → meals_so_far run (neighbour_at plan s i) < meals_so_far end (neighbour_at plan s i) }
 {}

@@ -6,8 +6,8 @@ ghost use Rattle.dine_graph.specs.Plan.{IsPlan, SeenPlan, edges_of, site_count};
 ghost use Rattle.dine_rules.specs.Local.{neighbour_at};
 ghost use Rattle.dine_waking.specs.Examples.{two_sites};
 ghost use Rattle.dine_waking.specs.MannerExamples.{rung_run, rung_too_late_run};
-ghost use Rattle.dine_waking.specs.Manners.{HasRungForAll, HoldsCleanFork, HoldsDirtyFork, IsAsked, LeadsInManner};
-ghost use Rattle.dine_waking.specs.Manners.{WaitsForFork, checked_after, forks_given, meals_so_far};
+ghost use Rattle.dine_waking.specs.Manners.{HasAsked, HasRungForAll, HoldsCleanFork, HoldsDirtyFork, IsAsked, IsPlaceIn};
+ghost use Rattle.dine_waking.specs.Manners.{LeadsInManner, WaitsForFork, checked_after, forks_given, meals_so_far};
 ghost use Rattle.dine_waking.specs.Patience.{LeadsPatiently, PatientStep, skips_after};
 ghost use Rattle.dine_waking.specs.Runs.{LeadsBySteps, Run, RunHasEnded, first_moment, number_there, start_run};
 
@@ -16,25 +16,22 @@ ghost use Rattle.dine_waking.specs.Runs.{LeadsBySteps, Run, RunHasEnded, first_m
 /// most so many meals. If at that moment it held the fork, the fork was dirty, and the site had not checked its bell,
 /// it begins only those that it is to begin without a check.
 pub fn patient_sites_begin_few_meals()
-    ensures few { (plan : SeenPlan) (is_open : Bool) (patience skips : ℕ → ℕ) (checked : ℕ → Bool) (n m : ℕ) (old new : Run) (s i : ℕ)
-        → IsPlan plan → LeadsBySteps plan n (first_moment is_open plan) old → s < site_count plan → i < length (edges_of plan s)
-        → 0 < patience s → skips s < patience s → IsAsked plan old s i → HasRungForAll plan old s i
+    ensures few { (plan : SeenPlan) (patience skips : ℕ → ℕ) (checked : ℕ → Bool) (m : ℕ) (old new : Run) (s i : ℕ)
+        → HasAsked plan old s i → 0 < patience s → skips s < patience s
         → LeadsPatiently plan patience m checked skips old new → forks_given new s i ≡ forks_given old s i
         → meals_so_far new s ≤ meals_so_far old s + patience s }
-    ensures unchecked { (plan : SeenPlan) (is_open : Bool) (patience skips : ℕ → ℕ) (checked : ℕ → Bool) (n m : ℕ) (old new : Run)
-        (s i : ℕ) → IsPlan plan → LeadsBySteps plan n (first_moment is_open plan) old → s < site_count plan
-        → i < length (edges_of plan s) → 0 < patience s → IsAsked plan old s i → HasRungForAll plan old s i
-        → HoldsDirtyFork plan old s i → checked s ≡ false → LeadsPatiently plan patience m checked skips old new
-        → forks_given new s i ≡ forks_given old s i → meals_so_far new s ≤ meals_so_far old s + skips s }
+    ensures unchecked { (plan : SeenPlan) (patience skips : ℕ → ℕ) (checked : ℕ → Bool) (m : ℕ) (old new : Run)
+        (s i : ℕ) → HasAsked plan old s i → 0 < patience s → HoldsDirtyFork plan old s i → checked s ≡ false
+        → LeadsPatiently plan patience m checked skips old new → forks_given new s i ≡ forks_given old s i
+        → meals_so_far new s ≤ meals_so_far old s + skips s }
 {}
 
 /// A patient site that was asked gives, after as many meals as its patience at most. Take such a moment, and patient
 /// steps from there to an end. They come to a step that gives the fork, and before this step the site begins at most so
 /// many meals.
 pub fn patient_sites_give_after_few_meals()
-    ensures { (plan : SeenPlan) (is_open : Bool) (patience skips : ℕ → ℕ) (checked : ℕ → Bool) (n m : ℕ) (old end : Run) (s i : ℕ)
-        → IsPlan plan → LeadsBySteps plan n (first_moment is_open plan) old → s < site_count plan → i < length (edges_of plan s)
-        → 0 < patience s → skips s < patience s → IsAsked plan old s i → HasRungForAll plan old s i
+    ensures { (plan : SeenPlan) (patience skips : ℕ → ℕ) (checked : ℕ → Bool) (m : ℕ) (old end : Run) (s i : ℕ)
+        → HasAsked plan old s i → 0 < patience s → skips s < patience s
         → LeadsPatiently plan patience m checked skips old end → RunHasEnded plan end
         → (before : ℕ) × (checked_there : ℕ → Bool) × (skips_there : ℕ → ℕ) × (between : Run) × (next : Run)
         × (behind : ℕ) × LeadsPatiently plan patience before checked skips old between
@@ -50,16 +47,14 @@ pub fn patient_sites_give_after_few_meals()
 /// many. If at that moment it held the fork, the fork was dirty, and the site had not checked its bell, it begins only
 /// those that it is to begin without a check.
 pub fn patient_sites_overtake_few_times()
-    ensures few { (plan : SeenPlan) (is_open : Bool) (patience skips : ℕ → ℕ) (checked : ℕ → Bool) (n m : ℕ) (old new : Run) (s i : ℕ)
-        → IsPlan plan → LeadsBySteps plan n (first_moment is_open plan) old → s < site_count plan → i < length (edges_of plan s)
-        → 0 < patience s → skips s < patience s
+    ensures few { (plan : SeenPlan) (patience skips : ℕ → ℕ) (checked : ℕ → Bool) (m : ℕ) (old new : Run) (s i : ℕ)
+        → IsPlaceIn plan old s i → 0 < patience s → skips s < patience s
         → WaitsForFork plan old (neighbour_at plan s i) (number_there plan s i)
         → LeadsPatiently plan patience m checked skips old new
         → meals_so_far new (neighbour_at plan s i) ≡ meals_so_far old (neighbour_at plan s i)
         → meals_so_far new s ≤ meals_so_far old s + patience s }
-    ensures unchecked { (plan : SeenPlan) (is_open : Bool) (patience skips : ℕ → ℕ) (checked : ℕ → Bool) (n m : ℕ) (old new : Run)
-        (s i : ℕ) → IsPlan plan → LeadsBySteps plan n (first_moment is_open plan) old → s < site_count plan
-        → i < length (edges_of plan s) → 0 < patience s
+    ensures unchecked { (plan : SeenPlan) (patience skips : ℕ → ℕ) (checked : ℕ → Bool) (m : ℕ) (old new : Run)
+        (s i : ℕ) → IsPlaceIn plan old s i → 0 < patience s
         → WaitsForFork plan old (neighbour_at plan s i) (number_there plan s i) → HoldsDirtyFork plan old s i
         → checked s ≡ false → LeadsPatiently plan patience m checked skips old new
         → meals_so_far new (neighbour_at plan s i) ≡ meals_so_far old (neighbour_at plan s i)

@@ -4,7 +4,7 @@ use Rattle.dine_waking.proofs.laws.manners.nobody_asks_in_vain.Goals as goal
 
 pub returns : goal.returns
 returns c = record {
-  given = λ plan is_open n m run end s i is_plan leads is_site within asked more ended.
-      asked_is_given plan is_plan run end m s i (reached_keeps plan is_plan is_open n run leads) (steps_keep plan is_plan m run end (reached_keeps plan is_plan is_open n run leads) more) is_site within asked more ended;
-  eats = λ plan is_open n m run end s i is_plan leads is_site within asked more ended. asker_eats plan is_plan run end m s i (reached_keeps plan is_plan is_open n run leads) is_site within asked more ended;
+  given = λ plan m run end s i p asked more ended.
+      asked_is_given plan p.is_plan run end m s i (reached_keeps plan p.is_plan p.is_open p.steps run p.reached) (steps_keep plan p.is_plan m run end (reached_keeps plan p.is_plan p.is_open p.steps run p.reached) more) p.is_site p.is_place asked more ended;
+  eats = λ plan m run end s i p asked more ended. asker_eats plan p.is_plan run end m s i (reached_keeps plan p.is_plan p.is_open p.steps run p.reached) p.is_site p.is_place asked more ended;
 }

@@ -4,10 +4,10 @@ use Rattle.dine_waking.proofs.laws.manners.polite_sites_overtake_at_most_once.Go
 
 pub returns : goal.returns
 returns c = record {
-  once = λ plan is_open is_polite checked checked_then n m old new s i is_plan leads is_site within polite waits more ate.
-      overtakes_once plan is_plan s i is_site within is_polite polite checked old (reached_keeps plan is_plan is_open n old leads) waits m checked_then new more ate;
-  never = λ plan is_open is_polite checked checked_then n m old new s i is_plan leads is_site within polite waits dirty yet more ate.
-      overtakes_never plan is_plan s i is_site within is_polite polite checked old (reached_keeps plan is_plan is_open n old leads) waits dirty yet m checked_then new more ate;
-  clean_first = λ plan is_open n m old new s i is_plan leads is_site within clean more ate.
-      clean_eats_first plan is_plan s i is_site within m old new (reached_keeps plan is_plan is_open n old leads) clean more ate;
+  once = λ plan is_polite checked checked_then m old new s i p polite waits more ate.
+      overtakes_once plan p.is_plan s i p.is_site p.is_place is_polite polite checked old (reached_keeps plan p.is_plan p.is_open p.steps old p.reached) waits m checked_then new more ate;
+  never = λ plan is_polite checked checked_then m old new s i p polite waits dirty yet more ate.
+      overtakes_never plan p.is_plan s i p.is_site p.is_place is_polite polite checked old (reached_keeps plan p.is_plan p.is_open p.steps old p.reached) waits dirty yet m checked_then new more ate;
+  clean_first = λ plan m old new s i p clean more ate.
+      clean_eats_first plan p.is_plan s i p.is_site p.is_place m old new (reached_keeps plan p.is_plan p.is_open p.steps old p.reached) clean more ate;
 }

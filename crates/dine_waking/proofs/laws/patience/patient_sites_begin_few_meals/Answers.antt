@@ -4,6 +4,8 @@ use Rattle.dine_waking.proofs.laws.patience.patient_sites_begin_few_meals.Goals 
 
 pub returns : goal.returns
 returns c = record {
-  few = λ plan is_open patience skips checked n m old new s i is_plan leads is_site within some fits asked rung patiently given. patient_meals plan is_plan s i is_site within patience some m checked skips old new (reached_keeps plan is_plan is_open n old leads) asked rung fits patiently given;
-  unchecked = λ plan is_open patience skips checked n m old new s i is_plan leads is_site within some asked rung dirty yet patiently given. unchecked_meals plan is_plan s i is_site within patience some m checked skips old new (reached_keeps plan is_plan is_open n old leads) asked rung dirty yet patiently given;
+  few = λ plan patience skips checked m old new s i has some fits patiently given.
+      let p = has.place in patient_meals plan p.is_plan s i p.is_site p.is_place patience some m checked skips old new (reached_keeps plan p.is_plan p.is_open p.steps old p.reached) has.asks has.rang fits patiently given;
+  unchecked = λ plan patience skips checked m old new s i has some dirty yet patiently given.
+      let p = has.place in unchecked_meals plan p.is_plan s i p.is_site p.is_place patience some m checked skips old new (reached_keeps plan p.is_plan p.is_open p.steps old p.reached) has.asks has.rang dirty yet patiently given;
 }

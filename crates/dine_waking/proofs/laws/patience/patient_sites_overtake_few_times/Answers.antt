@@ -4,8 +4,8 @@ use Rattle.dine_waking.proofs.laws.patience.patient_sites_overtake_few_times.Goa
 
 pub returns : goal.returns
 returns c = record {
-  few = λ plan is_open patience skips checked n m old new s i is_plan leads is_site within some fits waits more ate.
-      overtakes_few plan is_plan s i is_site within patience checked skips old (reached_keeps plan is_plan is_open n old leads) some waits fits m new more ate;
-  unchecked = λ plan is_open patience skips checked n m old new s i is_plan leads is_site within some waits dirty yet more ate.
-      overtakes_unchecked plan is_plan s i is_site within patience checked skips old (reached_keeps plan is_plan is_open n old leads) some waits dirty yet m new more ate;
+  few = λ plan patience skips checked m old new s i p some fits waits more ate.
+      overtakes_few plan p.is_plan s i p.is_site p.is_place patience checked skips old (reached_keeps plan p.is_plan p.is_open p.steps old p.reached) some waits fits m new more ate;
+  unchecked = λ plan patience skips checked m old new s i p some waits dirty yet more ate.
+      overtakes_unchecked plan p.is_plan s i p.is_site p.is_place patience checked skips old (reached_keeps plan p.is_plan p.is_open p.steps old p.reached) some waits dirty yet m new more ate;
 }
