@@ -59,8 +59,8 @@ pub fn worlds_asleep_are_complete()
 
 /// At each moment of a run the world is one that events reach from the start.
 pub fn runs_go_through_reached_worlds()
-    ensures { (plan : SeenPlan) (is_open : Bool) (n : ℕ) (run : Run) → IsPlan plan → LeadsBySteps plan n (first_moment is_open plan) run
-        → (events : List Event) × Reaches plan events run.world }
+    ensures { (plan : SeenPlan) (is_open : Bool) (n : ℕ) (run : Run) → IsPlan plan
+        → LeadsBySteps plan n (first_moment is_open plan) run → (events : List Event) × Reaches plan events run.world }
 {}
 
 /// At each moment of a run the letters in the link to a site at a place are as many as the rings for that place that
@@ -107,11 +107,11 @@ pub fn runs_can_end()
 /// A bell never holds more than four rings for each place of its site. When a site rings, the bell of its neighbour
 /// holds fewer.
 pub fn no_bell_is_full()
-    ensures few { (plan : SeenPlan) (is_open : Bool) (n : ℕ) (run : Run) (s : ℕ) → IsPlan plan → LeadsBySteps plan n (first_moment is_open plan) run
-        → s < site_count plan → length (thread_of run s).bell ≤ 4 * length (edges_of plan s) }
+    ensures few { (plan : SeenPlan) (is_open : Bool) (n : ℕ) (run : Run) (s : ℕ) → IsPlan plan
+        → LeadsBySteps plan n (first_moment is_open plan) run → s < site_count plan → length (thread_of run s).bell ≤ 4 * length (edges_of plan s) }
     ensures room { (plan : SeenPlan) (is_open : Bool) (n : ℕ) (run : Run) (s i : ℕ) (kind : LetterKind) → IsPlan plan
-        → LeadsBySteps plan n (first_moment is_open plan) run → s < site_count plan → (thread_of run s).doing ≡ HasToRing i kind
-        → length (thread_of run (neighbour_at plan s i)).bell < 4 * length (edges_of plan (neighbour_at plan s i)) }
+        → LeadsBySteps plan n (first_moment is_open plan) run → s < site_count plan
+        → (thread_of run s).doing ≡ HasToRing i kind → length (thread_of run (neighbour_at plan s i)).bell < 4 * length (edges_of plan (neighbour_at plan s i)) }
 {}
 
 /// Sites that may sleep: the higher of two workers, after it asked for the fork; a site that lacks two forks, while one
@@ -148,8 +148,8 @@ pub fn finished_sites_are_left_alone()
         → LeadsBySteps plan n (first_moment is_open plan) run → s < site_count plan
         → has_finished plan s (state_of run.world s) ≡ true → rings_left (thread_of run s) ≡ [] }
     ensures not_rung { (plan : SeenPlan) (is_open : Bool) (n : ℕ) (run : Run) (s i : ℕ) (kind : LetterKind) → IsPlan plan
-        → LeadsBySteps plan n (first_moment is_open plan) run → s < site_count plan → (thread_of run s).doing ≡ HasToRing i kind
-        → has_finished plan (neighbour_at plan s i) (state_of run.world (neighbour_at plan s i)) ≡ false }
+        → LeadsBySteps plan n (first_moment is_open plan) run → s < site_count plan
+        → (thread_of run s).doing ≡ HasToRing i kind → has_finished plan (neighbour_at plan s i) (state_of run.world (neighbour_at plan s i)) ≡ false }
 {}
 
 /// A place at which a site has taken Close is left alone: at each moment of a run the site has no ring left for it, and

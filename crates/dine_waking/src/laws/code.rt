@@ -92,8 +92,8 @@ pub fn turns_are_steps_of_runs()
         (with_thread s (record { doing = after_ringing woken i; bell = (thread_of old s).bell }) old))
         × (waking i woken ≡ wakes_due (after_ringing woken i)) }
     ensures wakes { (plan : SeenPlan) (is_open : Bool) (n : ℕ) (old : Run) (s i : ℕ) → IsPlan plan
-        → LeadsBySteps plan n (first_moment is_open plan) old → s < site_count plan → (thread_of old s).doing ≡ HasToWake i
-        → WakesThread plan s old (with_thread (neighbour_at plan s i)
+        → LeadsBySteps plan n (first_moment is_open plan) old → s < site_count plan
+        → (thread_of old s).doing ≡ HasToWake i → WakesThread plan s old (with_thread (neighbour_at plan s i)
         (record { doing = GoesOn; bell = (thread_of old (neighbour_at plan s i)).bell })
         (with_thread s (record { doing = GoesOn; bell = (thread_of old s).bell }) old)) }
     ensures hears { (manner : Manner) (plan : SeenPlan) (s : ℕ) (old : Run) (memo : Memo) (slept : Option Wants) (i : ℕ)

@@ -72,7 +72,8 @@ pub fn polite_sites_overtake_at_most_once()
 /// A site waits for one meal of each polite neighbour at most. Take a moment at which the site holds the fork of each
 /// of its places clean, or waits for it. Until the site begins its next meal, each polite neighbour begins at most one.
 pub fn waiters_wait_for_one_meal_of_each_polite_neighbour()
-    ensures { (plan : SeenPlan) (is_open : Bool) (is_polite checked checked_then : ℕ → Bool) (n m : ℕ) (old new : Run) (s : ℕ)
+    ensures { (plan : SeenPlan) (is_open : Bool) (is_polite checked checked_then : ℕ → Bool) (n m : ℕ)
+        (old new : Run) (s : ℕ)
         → IsPlan plan → LeadsBySteps plan n (first_moment is_open plan) old → s < site_count plan
         → ((i : ℕ) → i < length (edges_of plan s) → HoldsCleanFork plan old s i ⊎ WaitsForFork plan old s i)
         → LeadsInManner plan is_polite m checked old checked_then new → meals_so_far new s ≡ meals_so_far old s

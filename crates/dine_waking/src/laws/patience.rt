@@ -65,7 +65,8 @@ pub fn patient_sites_overtake_few_times()
 /// holds the fork of each of its places clean, or waits for it. Until the site begins its next meal, each patient
 /// neighbour begins at most so many.
 pub fn waiters_wait_for_few_meals_of_each_patient_neighbour()
-    ensures { (plan : SeenPlan) (is_open : Bool) (patience skips : ℕ → ℕ) (checked : ℕ → Bool) (n m : ℕ) (old new : Run) (s : ℕ)
+    ensures { (plan : SeenPlan) (is_open : Bool) (patience skips : ℕ → ℕ) (checked : ℕ → Bool) (n m : ℕ)
+        (old new : Run) (s : ℕ)
         → IsPlan plan → LeadsBySteps plan n (first_moment is_open plan) old → s < site_count plan
         → ((i : ℕ) → i < length (edges_of plan s) → HoldsCleanFork plan old s i ⊎ WaitsForFork plan old s i)
         → LeadsPatiently plan patience m checked skips old new → meals_so_far new s ≡ meals_so_far old s
