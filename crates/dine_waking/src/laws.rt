@@ -108,10 +108,12 @@ pub fn runs_can_end()
 /// holds fewer.
 pub fn no_bell_is_full()
     ensures few { (plan : SeenPlan) (is_open : Bool) (n : ℕ) (run : Run) (s : ℕ) → IsPlan plan
-        → LeadsBySteps plan n (first_moment is_open plan) run → s < site_count plan → length (thread_of run s).bell ≤ 4 * length (edges_of plan s) }
+        → LeadsBySteps plan n (first_moment is_open plan) run → s < site_count plan
+        → length (thread_of run s).bell ≤ 4 * length (edges_of plan s) }
     ensures room { (plan : SeenPlan) (is_open : Bool) (n : ℕ) (run : Run) (s i : ℕ) (kind : LetterKind) → IsPlan plan
         → LeadsBySteps plan n (first_moment is_open plan) run → s < site_count plan
-        → (thread_of run s).doing ≡ HasToRing i kind → length (thread_of run (neighbour_at plan s i)).bell < 4 * length (edges_of plan (neighbour_at plan s i)) }
+        → (thread_of run s).doing ≡ HasToRing i kind
+        → length (thread_of run (neighbour_at plan s i)).bell < 4 * length (edges_of plan (neighbour_at plan s i)) }
 {}
 
 /// Sites that may sleep: the higher of two workers, after it asked for the fork; a site that lacks two forks, while one
@@ -147,9 +149,10 @@ pub fn finished_sites_are_left_alone()
     ensures silent { (plan : SeenPlan) (is_open : Bool) (n : ℕ) (run : Run) (s : ℕ) → IsPlan plan
         → LeadsBySteps plan n (first_moment is_open plan) run → s < site_count plan
         → has_finished plan s (state_of run.world s) ≡ true → rings_left (thread_of run s) ≡ [] }
-    ensures not_rung { (plan : SeenPlan) (is_open : Bool) (n : ℕ) (run : Run) (s i : ℕ) (kind : LetterKind) → IsPlan plan
-        → LeadsBySteps plan n (first_moment is_open plan) run → s < site_count plan
-        → (thread_of run s).doing ≡ HasToRing i kind → has_finished plan (neighbour_at plan s i) (state_of run.world (neighbour_at plan s i)) ≡ false }
+    ensures not_rung { (plan : SeenPlan) (is_open : Bool) (n : ℕ) (run : Run) (s i : ℕ) (kind : LetterKind)
+        → IsPlan plan → LeadsBySteps plan n (first_moment is_open plan) run → s < site_count plan
+        → (thread_of run s).doing ≡ HasToRing i kind
+        → has_finished plan (neighbour_at plan s i) (state_of run.world (neighbour_at plan s i)) ≡ false }
 {}
 
 /// A place at which a site has taken Close is left alone: at each moment of a run the site has no ring left for it, and
@@ -170,8 +173,8 @@ pub fn closed_places_are_left_alone()
 /// thread is to be woken, the neighbour that noted this has yet to do so.
 pub fn each_woken_thread_has_one_waker()
     ensures found { (plan : SeenPlan) (is_open : Bool) (n : ℕ) (run : Run) (s i : ℕ) → IsPlan plan
-        → LeadsBySteps plan n (first_moment is_open plan) run → s < site_count plan → (thread_of run s).doing ≡ HasToWake i
-        → (thread_of run (neighbour_at plan s i)).doing ≡ IsToBeWoken (number_there plan s i) }
+        → LeadsBySteps plan n (first_moment is_open plan) run → s < site_count plan
+        → (thread_of run s).doing ≡ HasToWake i → (thread_of run (neighbour_at plan s i)).doing ≡ IsToBeWoken (number_there plan s i) }
     ensures woken { (plan : SeenPlan) (is_open : Bool) (n : ℕ) (run : Run) (s i : ℕ) → IsPlan plan
         → LeadsBySteps plan n (first_moment is_open plan) run → s < site_count plan → i < length (edges_of plan s)
         → (thread_of run s).doing ≡ IsToBeWoken i

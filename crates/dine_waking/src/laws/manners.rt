@@ -9,11 +9,12 @@ ghost use Rattle.dine_rules.specs.declared.letters.LetterKind.TheVariants as kin
 ghost use Rattle.dine_waking.specs.MannerExamples.{asked_back_run, eats_dirty_run, eats_first_run, rung_run};
 ghost use Rattle.dine_waking.specs.MannerExamples.{fork_taken_run, rung_too_late_run, unrung_run};
 ghost use Rattle.dine_waking.specs.Examples.{two_sites};
-ghost use Rattle.dine_waking.specs.Manners.{HasAsked, HasRungForAll, HoldsCleanFork, HoldsDirtyFork, IsAsked, IsPlaceIn};
-ghost use Rattle.dine_waking.specs.Manners.{LeadsInManner, MannerStep, WaitsForFork, checked_after, forks_given};
-ghost use Rattle.dine_waking.specs.Manners.{meals_so_far};
+ghost use Rattle.dine_waking.specs.Manners.{HasAsked, HasRungForAll, HoldsCleanFork, HoldsDirtyFork, IsAsked};
+ghost use Rattle.dine_waking.specs.Manners.{IsPlaceIn, LeadsInManner, MannerStep, WaitsForFork, checked_after};
+ghost use Rattle.dine_waking.specs.Manners.{forks_given, meals_so_far};
 ghost use Rattle.dine_waking.specs.Mistakes.{LeadsByOneCheck};
-ghost use Rattle.dine_waking.specs.Runs.{LeadsBySteps, RingsBell, Run, RunHasEnded, first_moment, number_there, start_run};
+ghost use Rattle.dine_waking.specs.Runs.{LeadsBySteps, RingsBell, Run, RunHasEnded, first_moment, number_there};
+ghost use Rattle.dine_waking.specs.Runs.{start_run};
 
 /// A polite site lets a neighbour wait for one meal at most. Take a moment at which the neighbour has asked the site
 /// for a fork, and has rung. As long as the site has not given this fork, it begins at most one meal. It begins none if

@@ -6,8 +6,9 @@ ghost use Rattle.dine_graph.specs.Plan.{IsPlan, SeenPlan, edges_of, site_count};
 ghost use Rattle.dine_rules.specs.Local.{neighbour_at};
 ghost use Rattle.dine_waking.specs.Examples.{two_sites};
 ghost use Rattle.dine_waking.specs.MannerExamples.{rung_run, rung_too_late_run};
-ghost use Rattle.dine_waking.specs.Manners.{HasAsked, HasRungForAll, HoldsCleanFork, HoldsDirtyFork, IsAsked, IsPlaceIn};
-ghost use Rattle.dine_waking.specs.Manners.{LeadsInManner, WaitsForFork, checked_after, forks_given, meals_so_far};
+ghost use Rattle.dine_waking.specs.Manners.{HasAsked, HasRungForAll, HoldsCleanFork, HoldsDirtyFork, IsAsked};
+ghost use Rattle.dine_waking.specs.Manners.{IsPlaceIn, LeadsInManner, WaitsForFork, checked_after, forks_given};
+ghost use Rattle.dine_waking.specs.Manners.{meals_so_far};
 ghost use Rattle.dine_waking.specs.Patience.{LeadsPatiently, PatientStep, skips_after};
 ghost use Rattle.dine_waking.specs.Runs.{LeadsBySteps, Run, RunHasEnded, first_moment, number_there, start_run};
 
