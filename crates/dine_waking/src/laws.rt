@@ -174,7 +174,8 @@ pub fn closed_places_are_left_alone()
 pub fn each_woken_thread_has_one_waker()
     ensures found { (plan : SeenPlan) (is_open : Bool) (n : ℕ) (run : Run) (s i : ℕ) → IsPlan plan
         → LeadsBySteps plan n (first_moment is_open plan) run → s < site_count plan
-        → (thread_of run s).doing ≡ HasToWake i → (thread_of run (neighbour_at plan s i)).doing ≡ IsToBeWoken (number_there plan s i) }
+        → (thread_of run s).doing ≡ HasToWake i
+        → (thread_of run (neighbour_at plan s i)).doing ≡ IsToBeWoken (number_there plan s i) }
     ensures woken { (plan : SeenPlan) (is_open : Bool) (n : ℕ) (run : Run) (s i : ℕ) → IsPlan plan
         → LeadsBySteps plan n (first_moment is_open plan) run → s < site_count plan → i < length (edges_of plan s)
         → (thread_of run s).doing ≡ IsToBeWoken i
