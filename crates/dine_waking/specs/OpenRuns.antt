@@ -1,5 +1,5 @@
--- Open runs whole: the threads of all sites, and at each site the door at which tasks come from outside. The thread of a
--- site asks at its door before it grows hungry, and may sleep there.
+-- Open runs whole: the threads of all sites, and at each site the door at which tasks come from outside. The thread of
+-- a site asks at its door before it grows hungry, and may sleep there.
 use Rattle.std.specs.Prelude.{◌≡◌, ◌⊎◌, ℕ, zero, suc, ◌+◌, ◌<◌, true, false, None, Some}
 use Rattle.dine_graph.specs.Plan.{SeenPlan, site_count}
 use Rattle.dine_rules.specs.declared.events.EventKind.TheVariants as event
@@ -117,8 +117,8 @@ pub data DueStep (plan : SeenPlan) (s : ℕ) (old new : OpenRun) : Type 0 where
   ToHearDoorbell : HearsDoorbell s old new → DueStep plan s old new
   ToRingDoorbell : RingsDoorbell plan s old new → DueStep plan s old new
 
--- This step at a door may come at any time, or never: somebody submits a task or closes the door, the epoch ends, or the
--- site takes a task out to do it.
+-- This step at a door may come at any time, or never: somebody submits a task or closes the door, the epoch ends, or
+-- the site takes a task out to do it.
 abbrev pub IsFree : (old new : Door) → DoorStep old new → Type 0
 IsFree old new (Submits is_open is) = Unit {0}
 IsFree old new (Closes is) = Unit {0}
