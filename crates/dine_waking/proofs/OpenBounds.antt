@@ -20,7 +20,7 @@ use Rattle.dine_rules.proofs.shared.one_place.Placed.{placed}
 use Rattle.dine_site.specs.CoreWants.{wants_by_lists}
 use Rattle.dine_waking.specs.Doors.{Door, DoorStep, Thinker, first_door, is_called, woken}
 use Rattle.dine_waking.specs.Doors as at_door
-use Rattle.dine_waking.specs.OpenRuns.{ActsOnCall, AsksAtDoor, DueStep, FreeStep, HearsDoorbell, HearsOnCall, IsAsking, IsFree, IsHearing, LeadsByOpenSteps, OpenRun, OpenStep, RingsDoorbell, RingsOnCall, SleepsOnCall, TakesOnCall, ToAct, ToAsk, ToHear, ToHearDoorbell, ToRing, ToRingDoorbell, ToSleep, ToTake, ToWake, WakesOnCall, count_due, count_free, due_steps, first_open_run, free_steps}
+use Rattle.dine_waking.specs.OpenRuns.{ActsOnCall, AsksAtDoor, Due, DueStep, Free, FreeStep, HearsDoorbell, HearsOnCall, IsAsking, IsFree, IsHearing, LeadsByOpenSteps, OpenRun, OpenStep, RingsDoorbell, RingsOnCall, SiteStep, SleepsOnCall, TakesOnCall, ToAct, ToAsk, ToHear, ToHearDoorbell, ToRing, ToRingDoorbell, ToSleep, ToTake, ToWake, WakesOnCall, count_due, count_free, due_steps, first_open_run, free_steps}
 use Rattle.dine_waking.specs.Runs.{Doing, GoesOn, HasToRing, HasToTake, HasToWake, IsToBeWoken, Run, Sleeps, Thread, after_ringing, doing_after, doing_rung, first_moment, fresh_thread, is_woken_by, thread_after_ring, thread_of}
 use Rattle.dine_waking.proofs.Bells.{Fits, KeepsBell}
 use Rattle.dine_waking.proofs.OpenRuns.{OpenKeeps, open_keeps, open_step_keeps, start_agrees}
@@ -303,10 +303,10 @@ fresh_weights zero = refl
 fresh_weights (suc n) = omega (arith, sum_by-cons weight_of fresh_thread (replicate n fresh_thread), fresh_weights n)
 
 module _ (plan : SeenPlan) (is_plan : IsPlan plan) where
-  one_counts : (old new : OpenRun) → OpenKeeps plan old → (s : ℕ) → s < site_count plan → (one : DueStep plan s old new ⊎ FreeStep s old new)
-      → count_due one + weights new.run.threads + door_weights (site_count plan) new.doors + 6 * effects_of old.run.world ≤ weights old.run.threads + door_weights (site_count plan) old.doors + 6 * effects_of new.run.world + 6 * count_free one
-  one_counts old new keeps s is_site (inl due) = omega (arith, due_counts plan is_plan old new keeps s is_site due)
-  one_counts old new keeps s is_site (inr free) = omega (arith, free_counts plan is_plan old new keeps s is_site free)
+  one_counts : (old new : OpenRun) → OpenKeeps plan old → (s : ℕ) → s < site_count plan → (one : SiteStep plan s old new)
+      → count_due plan s old new one + weights new.run.threads + door_weights (site_count plan) new.doors + 6 * effects_of old.run.world ≤ weights old.run.threads + door_weights (site_count plan) old.doors + 6 * effects_of new.run.world + 6 * count_free plan s old new one
+  one_counts old new keeps s is_site (Due due) = omega (arith, due_counts plan is_plan old new keeps s is_site due)
+  one_counts old new keeps s is_site (Free free) = omega (arith, free_counts plan is_plan old new keeps s is_site free)
 
   all_count : (n : ℕ) (old new : OpenRun) → OpenKeeps plan old → (leads : LeadsByOpenSteps plan n old new)
       → due_steps plan n old new leads + weights new.run.threads + door_weights (site_count plan) new.doors + 6 * effects_of old.run.world

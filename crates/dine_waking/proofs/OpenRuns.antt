@@ -16,7 +16,7 @@ use Rattle.dine_site.specs.CoreWants.{wants_by_lists}
 use Rattle.dine_site.specs.NextEvent.{next_event}
 use Rattle.dine_waking.specs.Doors.{Door, DoorStep, LeadsByDoorSteps, Thinker, woken}
 use Rattle.dine_waking.specs.Doors as at_door
-use Rattle.dine_waking.specs.OpenRuns.{ActsOnCall, AsksAtDoor, DueStep, FreeStep, HearsDoorbell, HearsOnCall, LeadsByOpenSteps, OpenRun, OpenStep, RingsDoorbell, RingsOnCall, SleepsOnCall, TakesOnCall, ToAct, ToAsk, ToHear, ToHearDoorbell, ToRing, ToRingDoorbell, ToSleep, ToTake, ToWake, WakesOnCall, first_open_run}
+use Rattle.dine_waking.specs.OpenRuns.{ActsOnCall, AsksAtDoor, Due, DueStep, Free, FreeStep, HearsDoorbell, HearsOnCall, LeadsByOpenSteps, OpenRun, OpenStep, RingsDoorbell, RingsOnCall, SleepsOnCall, TakesOnCall, ToAct, ToAsk, ToHear, ToHearDoorbell, ToRing, ToRingDoorbell, ToSleep, ToTake, ToWake, WakesOnCall, first_open_run}
 use Rattle.dine_waking.specs.Runs.{ByActing, ByDoorbell, ByHearing, ByRinging, BySleeping, ByTaking, ByWaking, Doing, GoesOn, HasToRing, HasToTake, HasToWake, IsToBeWoken, LeadsBySteps, Run, RunStep, Sleeps, Thread, after_ringing, doing_after, first_moment, fresh_thread, is_woken_by, thread_after_ring, thread_of}
 use Rattle.dine_waking.proofs.Agreement.{Agrees, asking_agrees, busy_agrees, busy_if, free_thinker, hearing_busy, is_asleep, is_off, off_after, off_ringing, rung_agrees, woken_agrees, woken_busy}
 use Rattle.dine_waking.proofs.Bells.{Fits, KeepsBell, RunKeeps, start_fresh, start_keeps, thread_elsewhere, thread_here, two_here, two_other, two_there}
@@ -41,8 +41,8 @@ due_run plan s old new is_site (ToRingDoorbell r) = elim r.wakes [
 
 pub open_run : (plan : SeenPlan) (old new : OpenRun) → OpenStep plan old new → RunStep plan old.run new.run ⊎ (new.run ≡ old.run)
 open_run plan old new one = elim one.step [
-  | inl due ↦ due_run plan one.site old new one.is_site due
-  | inr free ↦ inr free.at_door.run
+  | Due due ↦ due_run plan one.site old new one.is_site due
+  | Free free ↦ inr free.at_door.run
 ]
 
 -- a step at one door, and none at the others
@@ -68,8 +68,8 @@ due_door plan s t old new (ToRingDoorbell r) = one_door old new s t (inl (at_doo
 
 open_door : (plan : SeenPlan) (t : ℕ) (old new : OpenRun) → OpenStep plan old new → DoorStep (old.doors t) (new.doors t) ⊎ (new.doors t ≡ old.doors t)
 open_door plan t old new one = elim one.step [
-  | inl due ↦ due_door plan one.site t old new due
-  | inr free ↦ one_door old new one.site t (inl free.at_door.step) free.at_door.others
+  | Due due ↦ due_door plan one.site t old new due
+  | Free free ↦ one_door old new one.site t (inl free.at_door.step) free.at_door.others
 ]
 
 -- so are many steps
@@ -307,8 +307,8 @@ module _ (plan : SeenPlan) (is_plan : IsPlan plan) where
   pub open_step_keeps : (old new : OpenRun) → OpenKeeps plan old → OpenStep plan old new → OpenKeeps plan new
   open_step_keeps old new keeps one =
       let agree : (t : ℕ) → t < site_count plan → AgreesAt plan new t = elim one.step [
-        | inl due ↦ agree_due plan is_plan old new keeps one.site one.is_site due
-        | inr free ↦ agree_free plan is_plan old new keeps one.site one.is_site free
+        | Due due ↦ agree_due plan is_plan old new keeps one.site one.is_site due
+        | Free free ↦ agree_free plan is_plan old new keeps one.site one.is_site free
       ] in
       elim (open_run plan old new one) [
         | inl step ↦ record {

@@ -7,7 +7,7 @@ use Rattle.dine_rules.specs.Local.{neighbour_at}
 use Rattle.dine_rules.specs.World.{state_of}
 use Rattle.dine_site.specs.NextEvent.{next_event}
 use Rattle.dine_site.specs.Standing.{has_finished}
-use Rattle.dine_waking.specs.Doors.{AllRestAtDoors, Asks, Begins, Closes, Door, DoorStep, Ends, FallsAsleep, GoesOn, Hears, Rings, Submits, first_door, is_called, woken}
+use Rattle.dine_waking.specs.Doors.{AllRestAtDoors, Asks, Begins, Closes, Door, DoorStep, Ends, Hears, Submits, first_door, is_called, woken}
 use Rattle.dine_waking.specs.Doors as at_door
 use Rattle.dine_waking.specs.Runs as inside
 use Rattle.dine_waking.specs.Runs.{Acts, HearsRing, IsCalled, RingsBell, Run, TakesLetter, WakesThread, first_moment, fresh_thread, thread_of}
@@ -131,11 +131,16 @@ pub record FreeStep (s : ℕ) (old new : OpenRun) : Type 0 where
   pub at_door : AtDoor s old new
   pub free : IsFree (old.doors s) (new.doors s) at_door.step
 
+-- one step at a site: it is due, or it may come at any time
+pub data SiteStep (plan : SeenPlan) (s : ℕ) (old new : OpenRun) : Type 0 where
+  Due : DueStep plan s old new → SiteStep plan s old new
+  Free : FreeStep s old new → SiteStep plan s old new
+
 -- one step of an open run
 pub record OpenStep (plan : SeenPlan) (old new : OpenRun) : Type 0 where
   pub site : ℕ
   pub is_site : site < site_count plan
-  pub step : DueStep plan site old new ⊎ FreeStep site old new
+  pub step : SiteStep plan site old new
 
 -- n steps lead from one moment of an open run to the other
 abbrev pub LeadsByOpenSteps : SeenPlan → ℕ → OpenRun → OpenRun → Type 0
@@ -143,22 +148,24 @@ LeadsByOpenSteps plan zero old new = old ≡ new
 LeadsByOpenSteps plan (suc n) old new = (next : OpenRun) × OpenStep plan old next × LeadsByOpenSteps plan n next new
 
 -- 1 for a step that is due, and 0 for another one
-abbrev pub count_due : {D F : Type 0} → D ⊎ F → ℕ
-count_due one = elim one [ | inl due ↦ 1 | inr free ↦ 0 ]
+abbrev pub count_due : (plan : SeenPlan) (s : ℕ) (old new : OpenRun) → SiteStep plan s old new → ℕ
+count_due plan s old new (Due step) = 1
+count_due plan s old new (Free step) = 0
 
 -- 0 for a step that is due, and 1 for another one
-abbrev pub count_free : {D F : Type 0} → D ⊎ F → ℕ
-count_free one = elim one [ | inl due ↦ 0 | inr free ↦ 1 ]
+abbrev pub count_free : (plan : SeenPlan) (s : ℕ) (old new : OpenRun) → SiteStep plan s old new → ℕ
+count_free plan s old new (Due step) = 0
+count_free plan s old new (Free step) = 1
 
 -- how many of these steps are due
 abbrev pub due_steps : (plan : SeenPlan) (n : ℕ) (old new : OpenRun) → LeadsByOpenSteps plan n old new → ℕ
 due_steps plan zero old new leads = 0
-due_steps plan (suc n) old new leads = count_due leads.1.step + due_steps plan n leads.0 new leads.2
+due_steps plan (suc n) old new leads = count_due plan leads.1.site old leads.0 leads.1.step + due_steps plan n leads.0 new leads.2
 
 -- how many of them are not
 abbrev pub free_steps : (plan : SeenPlan) (n : ℕ) (old new : OpenRun) → LeadsByOpenSteps plan n old new → ℕ
 free_steps plan zero old new leads = 0
-free_steps plan (suc n) old new leads = count_free leads.1.step + free_steps plan n leads.0 new leads.2
+free_steps plan (suc n) old new leads = count_free plan leads.1.site old leads.0 leads.1.step + free_steps plan n leads.0 new leads.2
 
 -- An open run is at rest: each site has finished, or rests at its door, and nobody outside has to ring.
 pub record IsAtRest (plan : SeenPlan) (at : OpenRun) : Type 0 where
