@@ -46,6 +46,15 @@ hungry_or_not : (kind : EventKind) → (kind ≡ event.Hungry) ⊎ (kind ≡ eve
 hungry_or_not event.Hungry = inl refl
 hungry_or_not kind = inr (λ is. cc)
 
+-- some step is due at this site
+abbrev IsDueAt : SeenPlan → OpenRun → ℕ → Type 0
+IsDueAt plan at s = (new : OpenRun) × DueStep plan s at new
+
+-- none is: nobody has to ring, and the thread is at rest
+record RestsAt (plan : SeenPlan) (at : OpenRun) (s : ℕ) : Type 0 where
+  pub owes : (at.doors s).owed ≡ 0
+  pub thread_rests : inside.IsAtRest plan at.run s
+
 -- ---- one site
 
 module _ (plan : SeenPlan) (is_plan : IsPlan plan) (at : OpenRun) (keeps : OpenKeeps plan at) (s : ℕ) (is_site : s < site_count plan) where
@@ -61,14 +70,11 @@ module _ (plan : SeenPlan) (is_plan : IsPlan plan) (at : OpenRun) (keeps : OpenK
   agrees : Agrees plan s thread.doing state door.thinker
   agrees = keeps.agree s is_site
 
-  -- some step is due here
   abbrev IsDue : Type 0
-  IsDue = (new : OpenRun) × DueStep plan s at new
+  IsDue = IsDueAt plan at s
 
-  -- none is: nobody has to ring, and the thread is at rest
-  record RestsHere : Type 0 where
-    pub owes : door.owed ≡ 0
-    pub thread_rests : inside.IsAtRest plan at.run s
+  abbrev RestsHere : Type 0
+  RestsHere = RestsAt plan at s
 
   -- who is to grow hungry has not finished
   pub hungry_unfinished : next_event plan s state ≡ Some event.Hungry → has_finished plan s state ≡ false
@@ -120,8 +126,7 @@ module _ (plan : SeenPlan) (is_plan : IsPlan plan) (at : OpenRun) (keeps : OpenK
 
     -- it hears the next ring of a neighbour
     hears : (i : ℕ) (rest : List ℕ) → thread.bell ≡ i ∷ rest → (takes_letters (next_event plan s state) || may_think_on at.run.is_open (next_event plan s state)) ≡ true → IsDue
-    hears i rest ringing turn =
-        let now : Door = record door { thinker = at_door.Busy } in (
+    hears i rest ringing turn = (
           record { run = record at.run { threads = slice_set at.run.threads s (record { doing = HasToTake i; bell = rest }) }; doors = set_door at.doors s (record door { thinker = at_door.Busy }) },
           ToHear (record {
             hears = record { goes_on = on; turn = turn; i = i; front = []; rest = rest; bell = ringing; first = refl; world = refl; as_open = refl; threads = refl };
@@ -296,7 +301,7 @@ module _ (plan : SeenPlan) (is_plan : IsPlan plan) (at : OpenRun) (keeps : OpenK
 -- ---- all sites
 
 module _ (plan : SeenPlan) (is_plan : IsPlan plan) (at : OpenRun) (keeps : OpenKeeps plan at) where
-  at_rest : ((s : ℕ) → s < site_count plan → RestsHere plan is_plan at keeps s) → IsAtRest plan at
+  at_rest : ((s : ℕ) → s < site_count plan → RestsAt plan at s) → IsAtRest plan at
   at_rest all =
       let threads : (s : ℕ) → s < site_count plan → inside.IsAtRest plan at.run s = λ s is_site. (all s is_site).thread_rests in
       record {
@@ -314,7 +319,7 @@ module _ (plan : SeenPlan) (is_plan : IsPlan plan) (at : OpenRun) (keeps : OpenK
       }
 
   pub step_or_rest : ((s : ℕ) × (s < site_count plan) × (new : OpenRun) × DueStep plan s at new) ⊎ IsAtRest plan at
-  step_or_rest = elim (all_or_one {P = RestsHere plan is_plan at keeps} {Q = IsDue plan is_plan at keeps} (site_count plan) (due_or_rest plan is_plan at keeps)) [
+  step_or_rest = elim (all_or_one {P = RestsAt plan at} {Q = IsDueAt plan at} (site_count plan) (due_or_rest plan is_plan at keeps)) [
     | inl all ↦ inr (at_rest all)
     | inr w ↦ inl (w.0, w.1, w.2.0, w.2.1)
   ]
