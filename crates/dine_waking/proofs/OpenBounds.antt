@@ -210,13 +210,13 @@ module _ (plan : SeenPlan) (is_plan : IsPlan plan) (old new : OpenRun) (keeps : 
 
   asked : AsksAtDoor plan s old new → Counts
   asked a =
-      let same = run_stays a.at_door.run in
-      omega (arith, same.0, same.1, one_door s is_site a.at_door.others, asking_weight (old.doors s) (new.doors s) a.at_door.step a.asks a.not_called)
+      let same = run_stays a.here.run in
+      omega (arith, same.0, same.1, one_door s is_site a.here.others, asking_weight (old.doors s) (new.doors s) a.here.step a.asks a.not_called)
 
   heard_doorbell : HearsDoorbell s old new → Counts
   heard_doorbell h =
-      let same = run_stays h.at_door.run in
-      omega (arith, same.0, same.1, one_door s is_site h.at_door.others, hearing_weight (old.doors s) (new.doors s) h.at_door.step h.hears)
+      let same = run_stays h.here.run in
+      omega (arith, same.0, same.1, one_door s is_site h.here.others, hearing_weight (old.doors s) (new.doors s) h.here.step h.hears)
 
   rung_doorbell : RingsDoorbell plan s old new → Counts
   rung_doorbell r =
@@ -293,8 +293,8 @@ module _ (plan : SeenPlan) (is_plan : IsPlan plan) (old new : OpenRun) (keeps : 
 
   free_counts : FreeStep s old new → weights new.run.threads + doors_of new + 6 * effects_of old.run.world ≤ weights old.run.threads + doors_of old + 6 * effects_of new.run.world + 6
   free_counts f =
-      let same = run_stays f.at_door.run in
-      omega (arith, same.0, same.1, one_door s is_site f.at_door.others, free_weight (old.doors s) (new.doors s) f.at_door.step f.free)
+      let same = run_stays f.here.run in
+      omega (arith, same.0, same.1, one_door s is_site f.here.others, free_weight (old.doors s) (new.doors s) f.here.step f.free)
 
 -- ---- all steps
 

@@ -140,7 +140,7 @@ module _ (plan : SeenPlan) (is_plan : IsPlan plan) (at : OpenRun) (keeps : OpenK
     hears_doorbell rest rings = (
       record { run = at.run; doors = set_door at.doors s (record door { rings = rest; thinker = at_door.Busy }) },
       ToHearDoorbell (record {
-        at_door = record {
+        here = record {
           step = at_door.Hears rest rings (set_here at.doors s (record door { rings = rest; thinker = at_door.Busy }));
           others = set_other at.doors s (record door { rings = rest; thinker = at_door.Busy });
           run = refl;
@@ -203,7 +203,7 @@ module _ (plan : SeenPlan) (is_plan : IsPlan plan) (at : OpenRun) (keeps : OpenK
         set_here at.doors s (record door { waits = true; thinker = at_door.Thinks }) ∙ sym (cond-false {A = Door} (is_called door) (record door { waits = false }) (record door { waits = true; thinker = at_door.Thinks }) called) in (
           record { run = at.run; doors = set_door at.doors s (record door { waits = true; thinker = at_door.Thinks }) },
           ToAsk (record {
-            at_door = record { step = at_door.Asks busy is; others = set_other at.doors s (record door { waits = true; thinker = at_door.Thinks }); run = refl };
+            here = record { step = at_door.Asks busy is; others = set_other at.doors s (record door { waits = true; thinker = at_door.Thinks }); run = refl };
             not_called = called;
             asks = tt;
             goes_on = on;

@@ -32,8 +32,8 @@ due_run plan s old new is_site (ToWake w) = inl (record { site = s; is_site = is
 due_run plan s old new is_site (ToHear h) = inl (record { site = s; is_site = is_site; step = ByHearing h.hears })
 due_run plan s old new is_site (ToTake t) = inl (record { site = s; is_site = is_site; step = ByTaking t.takes })
 due_run plan s old new is_site (ToSleep f) = inl (record { site = s; is_site = is_site; step = BySleeping f.sleeps })
-due_run plan s old new is_site (ToAsk a) = inr a.at_door.run
-due_run plan s old new is_site (ToHearDoorbell h) = inr h.at_door.run
+due_run plan s old new is_site (ToAsk a) = inr a.here.run
+due_run plan s old new is_site (ToHearDoorbell h) = inr h.here.run
 due_run plan s old new is_site (ToRingDoorbell r) = elim r.wakes [
   | inl called ↦ inl (record { site = s; is_site = is_site; step = ByDoorbell called })
   | inr awake ↦ inr awake.1
@@ -42,7 +42,7 @@ due_run plan s old new is_site (ToRingDoorbell r) = elim r.wakes [
 pub open_run : (plan : SeenPlan) (old new : OpenRun) → OpenStep plan old new → RunStep plan old.run new.run ⊎ (new.run ≡ old.run)
 open_run plan old new one = elim one.step [
   | Due due ↦ due_run plan one.site old new one.is_site due
-  | Free free ↦ inr free.at_door.run
+  | Free free ↦ inr free.here.run
 ]
 
 -- a step at one door, and none at the others
@@ -62,14 +62,14 @@ due_door plan s t old new (ToSleep f) = one_door old new s t (elim f.door [
   | inl idle ↦ inr idle.2
   | inr thinks ↦ inl (at_door.FallsAsleep thinks.1 f.silent thinks.2)
 ]) f.others
-due_door plan s t old new (ToAsk a) = one_door old new s t (inl a.at_door.step) a.at_door.others
-due_door plan s t old new (ToHearDoorbell h) = one_door old new s t (inl h.at_door.step) h.at_door.others
+due_door plan s t old new (ToAsk a) = one_door old new s t (inl a.here.step) a.here.others
+due_door plan s t old new (ToHearDoorbell h) = one_door old new s t (inl h.here.step) h.here.others
 due_door plan s t old new (ToRingDoorbell r) = one_door old new s t (inl (at_door.Rings r.rest r.owed r.door)) r.others
 
 open_door : (plan : SeenPlan) (t : ℕ) (old new : OpenRun) → OpenStep plan old new → DoorStep (old.doors t) (new.doors t) ⊎ (new.doors t ≡ old.doors t)
 open_door plan t old new one = elim one.step [
   | Due due ↦ due_door plan one.site t old new due
-  | Free free ↦ one_door old new one.site t (inl free.at_door.step) free.at_door.others
+  | Free free ↦ one_door old new one.site t (inl free.here.step) free.here.others
 ]
 
 -- so are many steps
@@ -210,18 +210,18 @@ module _ (plan : SeenPlan) (is_plan : IsPlan plan) (old new : OpenRun) (keeps : 
 
   agree_asks : AsksAtDoor plan x old new → (t : ℕ) → t < site_count plan → AgreesAt plan new t
   agree_asks a =
-      let same = run_stays a.at_door.run x in
+      let same = run_stays a.here.run x in
       each (subst (λ (d : Doing). Agrees plan x d (state_of new.run.world x) (new.doors x).thinker) (sym (same.0 ∙ a.goes_on))
-      (asking_agrees plan x (state_of new.run.world x) (old.doors x) (new.doors x) a.at_door.step a.asks (ap (next_event plan x) same.1 ∙ a.next)))
-      (agree_elsewhere a.at_door.run a.at_door.others)
+      (asking_agrees plan x (state_of new.run.world x) (old.doors x) (new.doors x) a.here.step a.asks (ap (next_event plan x) same.1 ∙ a.next)))
+      (agree_elsewhere a.here.run a.here.others)
 
   agree_hears_doorbell : HearsDoorbell x old new → (t : ℕ) → t < site_count plan → AgreesAt plan new t
-  agree_hears_doorbell h = each (busy_agrees plan x (thread_of new.run x).doing (state_of new.run.world x) (new.doors x).thinker (hearing_busy (old.doors x) (new.doors x) h.at_door.step h.hears)
-      (ap is_asleep ((run_stays h.at_door.run x).0 ∙ h.goes_on))) (agree_elsewhere h.at_door.run h.at_door.others)
+  agree_hears_doorbell h = each (busy_agrees plan x (thread_of new.run x).doing (state_of new.run.world x) (new.doors x).thinker (hearing_busy (old.doors x) (new.doors x) h.here.step h.hears)
+      (ap is_asleep ((run_stays h.here.run x).0 ∙ h.goes_on))) (agree_elsewhere h.here.run h.here.others)
 
   agree_free : FreeStep x old new → (t : ℕ) → t < site_count plan → AgreesAt plan new t
-  agree_free f = each (agree_stays plan old new x (run_stays f.at_door.run x).0 (run_stays f.at_door.run x).1 (free_thinker (old.doors x) (new.doors x) f.at_door.step f.free) (keeps.agree x is_x))
-      (agree_elsewhere f.at_door.run f.at_door.others)
+  agree_free f = each (agree_stays plan old new x (run_stays f.here.run x).0 (run_stays f.here.run x).1 (free_thinker (old.doors x) (new.doors x) f.here.step f.free) (keeps.agree x is_x))
+      (agree_elsewhere f.here.run f.here.others)
 
   agree_rings_doorbell : RingsDoorbell plan x old new → (t : ℕ) → t < site_count plan → AgreesAt plan new t
   agree_rings_doorbell r =

@@ -85,16 +85,16 @@ IsHearing old new step = ⊥
 
 -- The site, which is to grow hungry, asks at its door, and is not called. If it is, it grows hungry.
 pub record AsksAtDoor (plan : SeenPlan) (s : ℕ) (old new : OpenRun) : Type 0 where
-  pub at_door : AtDoor s old new
+  pub here : AtDoor s old new
   pub not_called : is_called (old.doors s) ≡ false
-  pub asks : IsAsking (old.doors s) (new.doors s) at_door.step
+  pub asks : IsAsking (old.doors s) (new.doors s) here.step
   pub goes_on : (thread_of old.run s).doing ≡ inside.GoesOn
   pub next : next_event plan s (state_of old.run.world s) ≡ Some event.Hungry
 
 -- The site hears a ring of those outside.
 pub record HearsDoorbell (s : ℕ) (old new : OpenRun) : Type 0 where
-  pub at_door : AtDoor s old new
-  pub hears : IsHearing (old.doors s) (new.doors s) at_door.step
+  pub here : AtDoor s old new
+  pub hears : IsHearing (old.doors s) (new.doors s) here.step
   pub goes_on : (thread_of old.run s).doing ≡ inside.GoesOn
 
 -- Somebody outside who has to ring rings the doorbell. If the thread of the site sleeps, it goes on.
@@ -128,8 +128,8 @@ IsFree old new step = ⊥
 
 -- such a step at the door of a site
 pub record FreeStep (s : ℕ) (old new : OpenRun) : Type 0 where
-  pub at_door : AtDoor s old new
-  pub free : IsFree (old.doors s) (new.doors s) at_door.step
+  pub here : AtDoor s old new
+  pub free : IsFree (old.doors s) (new.doors s) here.step
 
 -- one step at a site: it is due, or it may come at any time
 pub data SiteStep (plan : SeenPlan) (s : ℕ) (old new : OpenRun) : Type 0 where
