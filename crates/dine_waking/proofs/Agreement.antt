@@ -36,7 +36,7 @@ pub not_asleep : (doing : Doing) → is_asleep doing ≡ false → (wants : Seen
 not_asleep doing off wants is = true≢false (sym (ap is_asleep is) ∙ off)
 
 pub busy_agrees : (plan : SeenPlan) (s : ℕ) (doing : Doing) (state : LocalState) (thinker : Thinker) → thinker ≡ at_door.Busy → is_asleep doing ≡ false → Agrees plan s doing state thinker
-busy_agrees plan s doing state thinker busy off = record {
+busy_agrees plan s doing state now busy off = record {
   asleep = λ is. absurd (let e : at_door.Busy ≡ at_door.Sleeps = sym busy ∙ is in cc);
   thinks = λ is. absurd (let e : at_door.Busy ≡ at_door.Thinks = sym busy ∙ is in cc);
   thinking = λ is. absurd (let e : at_door.Busy ≡ at_door.Thinks = sym busy ∙ is in cc);

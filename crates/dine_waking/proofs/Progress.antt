@@ -100,7 +100,7 @@ module _ (plan : SeenPlan) (is_plan : IsPlan plan) (run : Run) (keeps : RunKeeps
   abbrev state : LocalState
   state = state_of run.world s
 
-  keeps_here : KeepsBell plan run s
+  abbrev keeps_here : KeepsBell plan run s
   keeps_here = keeps.sites s is_site
 
   -- it takes the letter for which it heard a ring

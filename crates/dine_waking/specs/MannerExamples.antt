@@ -1,5 +1,5 @@
 -- Sites that are asked for a fork while they could eat, at two sites with one edge.
-use Rattle.std.specs.Prelude.{ℕ, [], ◌∷◌}
+use Rattle.std.specs.Prelude.{ℕ, false, [], ◌∷◌}
 use Rattle.dine_rules.specs.declared.letters.LetterKind.TheVariants as kind
 use Rattle.dine_rules.specs.declared.phase.Phase.TheVariants.{Eating, Hungry, Thinking}
 use Rattle.dine_waking.specs.Examples.{at_work, fork_given_first, request, state_in}

@@ -1,3 +1,4 @@
+use Rattle.std.proofs.Common.{false}
 use Rattle.dine_waking.proofs.Bounded.{reached_keeps, reached_open, stuck_has_ended}
 use Rattle.dine_waking.proofs.GoingOn.{ended_is_stuck}
 use Rattle.dine_waking.proofs.Progress.{step_or_end}

@@ -82,6 +82,7 @@ returns c = record {
           anyway = anyway;
           rings = rings;
           world = refl;
+          as_open = refl;
           threads = ap (λ (b : Bool). slice_set (slice_set old.threads s (record { doing = after_ringing b i; bell = (thread_of old s).bell })) there (thread_after_ring anyway (number_there plan s i) kind (thread_of old there))) is;
         },
         wake_due i woken,

@@ -1,3 +1,4 @@
+use Rattle.std.proofs.Common.{false}
 use Rattle.dine_waking.proofs.Bounded.{reached_keeps, reached_open}
 use Rattle.dine_waking.proofs.InManner.{manner_or_end}
 use Rattle.dine_waking.proofs.Polite.{manner_leads}
