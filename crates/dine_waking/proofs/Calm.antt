@@ -2,20 +2,20 @@
 -- site.
 use Rattle.std.proofs.Common.{◌≡◌, ◌⊎◌, ℕ, zero, suc, ◌+◌, ◌<◌, ◌≤◌, Bool, true, false, not, ◌&&◌, ◌||◌, ◌==◌, nat_lt, List, [], ◌∷◌, ◌++◌, length, slice_get, Some, refl, sym, ◌∙◌, ap, subst, inl, inr, arith, append-nil, zero-add, add-zero}
 use Rattle.std.specs.List.{range_with_len, list_all}
-use Rattle.std.proofs.lemmas.Bool.{true≢false, false≢true, cases_Bool, cases_eq, and_from, or_left, or_parts, or_right, not-false, not_from_false, false_from_ne_true, true_from_ne_false, lt-ltb, ltb-false, eq-eqb, eqb-false}
+use Rattle.std.proofs.lemmas.Bool.{true≢false, false≢true, cases_Bool, cases_eq, and_from, or_parts, not-false, not_from_false, false_from_ne_true, lt-ltb, eq-eqb, eqb-false}
 use Rattle.dine_token.specs.Log.{is_dirty}
-use Rattle.dine_graph.specs.Plan.{SeenPlan, IsPlan, site_count, job_count, edges_of, lo_of, hi_of, other_of}
+use Rattle.dine_graph.specs.Plan.{SeenPlan, IsPlan, site_count, edges_of, lo_of, hi_of, other_of}
 use Rattle.dine_rules.specs.declared.letters.Letter.{Letter}
 use Rattle.dine_rules.specs.declared.letters.Letter.TheVariants as letter
 use Rattle.dine_rules.specs.declared.phase.Phase.{Phase}
 use Rattle.dine_rules.specs.declared.phase.Phase.TheVariants as phase
 use Rattle.dine_rules.specs.Letters.{forks_in, requests_in, has_done, has_close}
-use Rattle.dine_rules.specs.Local.{LocalState, traffic_at, edge_at, neighbour_at, is_thinking, is_hungry, is_eating, has_no_job_left}
+use Rattle.dine_rules.specs.Local.{LocalState, traffic_at, edge_at, neighbour_at, is_thinking, is_hungry, is_eating}
 use Rattle.dine_rules.specs.Holdings.{fork_at, token_at, hand_at}
 use Rattle.dine_rules.specs.Breach.{is_allowed}
 use Rattle.dine_rules.specs.Steps.{Give, Ask, Begin, Take, may, is_ready}
 use Rattle.dine_rules.specs.Streams.{KeepsStreamsAt, is_orderly}
-use Rattle.dine_rules.specs.World.{WorldState, state_of, place_of, put_to, next_letter, IsComplete}
+use Rattle.dine_rules.specs.World.{WorldState, state_of, place_of, put_to, next_letter}
 use Rattle.dine_rules.specs.Links.{queue_to}
 use Rattle.dine_rules.specs.Precedence.{IsAcyclic, StandsBefore, preferred_end}
 use Rattle.dine_rules.proofs.shared.links.Across.{across}
@@ -28,7 +28,7 @@ use Rattle.dine_rules.proofs.shared.links.Links.{joined, link_holds, puts_back}
 use Rattle.dine_rules.proofs.shared.links.NextLetters.{next_allowed}
 use Rattle.dine_rules.proofs.shared.precedence.Orders.{Before, before_from, in_order}
 use Rattle.dine_rules.proofs.shared.one_place.Placed.{placed}
-use Rattle.dine_rules.proofs.shared.lists.Turns.{slice_get-behind, ends_in_close}
+use Rattle.dine_rules.proofs.shared.lists.Turns.{slice_get-behind}
 use Rattle.dine_rules.proofs.shared.links.WorldStreams.{WorldKeeps}
 
 -- ---- tests

@@ -1,11 +1,9 @@
 -- A site that is called does not sleep, unless somebody has yet to ring for it.
-use Rattle.std.proofs.Common.{◌≡◌, ◌⊎◌, ℕ, zero, suc, ◌+◌, ◌<◌, ◌||◌, nat_lt, Bool, true, false, cond, if◌then◌else◌, List, None, Some, refl, sym, ◌∙◌, ap, subst, inl, inr, arith}
-use Rattle.std.proofs.lemmas.Bool.{cases_Bool, true≢false, or_left}
+use Rattle.std.proofs.Common.{◌≡◌, ◌⊎◌, ℕ, zero, suc, ◌+◌, ◌<◌, nat_lt, Bool, true, false, if◌then◌else◌, List, refl, sym, ◌∙◌, ap, subst, inl, inr, arith}
+use Rattle.std.proofs.lemmas.Bool.{true≢false, or_left}
 use Rattle.dine_graph.specs.Plan.{SeenPlan, IsPlan, site_count}
 use Rattle.dine_rules.specs.declared.events.Event.{Event}
-use Rattle.dine_rules.specs.declared.events.EventKind.TheVariants as event
 use Rattle.dine_rules.specs.World.{IsComplete, Reaches, WorldState, state_of}
-use Rattle.dine_site.specs.NextEvent.{next_event}
 use Rattle.dine_site.specs.Standing.{has_finished}
 use Rattle.dine_waking.specs.Doors.{AllRestAtDoors, Busy, Door, DoorStep, IsReachedDoor, LeadsByDoorSteps, RestsAtDoor, Sleeps, Thinker, Thinks, first_door, is_called, is_ended, owed_after, woken, Submits, Closes, Ends, Rings, Begins, Asks, Hears, GoesOn, FallsAsleep}
 use Rattle.dine_waking.specs.Sleeping.{SleepsWell}

@@ -1,5 +1,5 @@
 -- How many steps of an open run are due.
-use Rattle.std.proofs.Common.{◌≡◌, ◌≢◌, ◌⊎◌, ℕ, zero, suc, ◌+◌, ◌*◌, ◌<◌, ◌≤◌, ◌||◌, Bool, true, false, List, [], ◌∷◌, ◌++◌, length, replicate, get_or, slice_set, sum_by, Some, refl, sym, ◌∙◌, ap, subst, inl, inr, arith, length-append, if◌then◌else◌}
+use Rattle.std.proofs.Common.{◌≡◌, ℕ, zero, suc, ◌+◌, ◌*◌, ◌<◌, ◌≤◌, ◌||◌, Bool, true, false, List, [], ◌∷◌, ◌++◌, length, replicate, get_or, slice_set, sum_by, Some, refl, ◌∙◌, ap, subst, inl, inr, arith, length-append, if◌then◌else◌}
 use Rattle.std.proofs.lemmas.Bool.{cases_eq, cond-false}
 use Rattle.std.proofs.lemmas.List.{get_or-set_other, length-set}
 use Rattle.std.proofs.lemmas.List.Sums.{sum_by-cons, sum_by-set}
@@ -20,8 +20,8 @@ use Rattle.dine_rules.proofs.shared.one_place.Placed.{placed}
 use Rattle.dine_site.specs.CoreWants.{wants_by_lists}
 use Rattle.dine_waking.specs.Doors.{Door, DoorStep, Thinker, first_door, is_called, woken}
 use Rattle.dine_waking.specs.Doors as at_door
-use Rattle.dine_waking.specs.OpenRuns.{ActsOnCall, AsksAtDoor, Due, DueStep, Free, FreeStep, HearsDoorbell, HearsOnCall, IsAsking, IsFree, IsHearing, LeadsByOpenSteps, OpenRun, OpenStep, RingsDoorbell, RingsOnCall, SiteStep, SleepsOnCall, TakesOnCall, ToAct, ToAsk, ToHear, ToHearDoorbell, ToRing, ToRingDoorbell, ToSleep, ToTake, ToWake, WakesOnCall, count_due, count_free, due_steps, first_open_run, free_steps}
-use Rattle.dine_waking.specs.Runs.{Doing, GoesOn, HasToRing, HasToTake, HasToWake, IsToBeWoken, Run, Sleeps, Thread, after_ringing, doing_after, doing_rung, first_moment, fresh_thread, is_woken_by, thread_after_ring, thread_of}
+use Rattle.dine_waking.specs.OpenRuns.{ActsOnCall, AsksAtDoor, Due, DueStep, Free, FreeStep, HearsDoorbell, HearsOnCall, IsAsking, IsFree, IsHearing, LeadsByOpenSteps, OpenRun, RingsDoorbell, RingsOnCall, SiteStep, SleepsOnCall, TakesOnCall, ToAct, ToAsk, ToHear, ToHearDoorbell, ToRing, ToRingDoorbell, ToSleep, ToTake, ToWake, WakesOnCall, count_due, count_free, due_steps, first_open_run, free_steps}
+use Rattle.dine_waking.specs.Runs.{Doing, GoesOn, HasToRing, HasToTake, HasToWake, IsToBeWoken, Run, Sleeps, Thread, after_ringing, doing_after, doing_rung, fresh_thread, is_woken_by, thread_after_ring, thread_of}
 use Rattle.dine_waking.proofs.Bells.{Fits, KeepsBell}
 use Rattle.dine_waking.proofs.OpenRuns.{OpenKeeps, open_keeps, open_step_keeps, start_agrees}
 use Rattle.dine_waking.proofs.Queues.{take_at}

@@ -1,15 +1,12 @@
 -- An open run in which no step is due is at rest, and all that are at rest have been served.
-use Rattle.std.proofs.Common.{◌≡◌, ◌≢◌, ◌⊎◌, ℕ, zero, suc, ◌+◌, ◌<◌, ◌==◌, ◌||◌, Bool, true, false, cond, if◌then◌else◌, List, [], ◌∷◌, length, slice_set, Option, Some, None, refl, sym, ◌∙◌, ap, ap₂, subst, inl, inr, arith}
+use Rattle.std.proofs.Common.{◌≡◌, ◌⊎◌, ℕ, zero, suc, ◌+◌, ◌<◌, ◌==◌, ◌||◌, Bool, true, false, if◌then◌else◌, List, [], ◌∷◌, slice_set, Option, Some, None, refl, sym, ◌∙◌, ap, ap₂, subst, inl, inr, arith}
 use Rattle.std.proofs.lemmas.Bool.{cond-false, cond-true, eq-eqb, false_from_ne_true, ne_eqb, true≢false}
 use Rattle.std.proofs.lemmas.Option.{same_Some}
-use Rattle.dine_graph.specs.Plan.{SeenPlan, IsPlan, site_count, edges_of}
+use Rattle.dine_graph.specs.Plan.{SeenPlan, IsPlan, site_count}
 use Rattle.dine_rules.specs.declared.events.EventKind.{EventKind}
 use Rattle.dine_rules.specs.declared.events.EventKind.TheVariants as event
-use Rattle.dine_rules.specs.declared.letters.Letter.{Letter}
-use Rattle.dine_rules.specs.declared.letters.LetterKind.{LetterKind}
 use Rattle.dine_rules.specs.Local.{LocalState, is_thinking, neighbour_at}
-use Rattle.dine_rules.specs.Wants.{SeenWants}
-use Rattle.dine_rules.specs.World.{WorldState, state_of}
+use Rattle.dine_rules.specs.World.{state_of}
 use Rattle.dine_rules.proofs.shared.counting.Enabled.{IsStill}
 use Rattle.dine_rules.proofs.shared.links.WorldStreams.{reached_kept}
 use Rattle.dine_site.specs.CoreWants.{wants_by_lists}
@@ -18,14 +15,14 @@ use Rattle.dine_site.specs.Standing.{all_places, has_finished}
 use Rattle.dine_waking.specs.Doors.{Door, RestsAtDoor, Thinker, is_called, is_ended, woken}
 use Rattle.dine_waking.specs.Doors as at_door
 use Rattle.dine_waking.specs.OpenRuns.{DueStep, IsAtRest, LeadsByOpenSteps, OpenRun, ToAct, ToAsk, ToHear, ToHearDoorbell, ToRing, ToRingDoorbell, ToSleep, ToTake, ToWake, first_open_run}
-use Rattle.dine_waking.specs.Resting.{AllRestWell, RestsWell}
-use Rattle.dine_waking.specs.Runs.{Doing, GoesOn, HasToRing, HasToTake, HasToWake, IsToBeWoken, Run, RunHasEnded, Sleeps, Thread, after_ringing, doing_after, fresh_thread, is_woken_by, may_think_on, number_there, rings_for, takes_letters, thread_after_ring, thread_of}
+use Rattle.dine_waking.specs.Resting.{AllRestWell}
+use Rattle.dine_waking.specs.Runs.{Doing, GoesOn, HasToRing, HasToTake, HasToWake, IsToBeWoken, Run, RunHasEnded, Sleeps, Thread, after_ringing, doing_after, is_woken_by, may_think_on, number_there, rings_for, takes_letters, thread_after_ring, thread_of}
 use Rattle.dine_waking.proofs.Acting.{found_passes}
 use Rattle.dine_waking.proofs.Agreement.{Agrees, busy_on, is_asleep, is_off, not_asleep}
 use Rattle.dine_waking.proofs.Asleep.{all_or_one}
-use Rattle.dine_waking.proofs.Bells.{Fits, IsUnrung, RunKeeps}
+use Rattle.dine_waking.proofs.Bells.{Fits, IsUnrung}
 use Rattle.dine_waking.proofs.Doors.{closed_doors_end, rung_for}
-use Rattle.dine_waking.proofs.OpenRuns.{OpenKeeps, open_door_leads, open_keeps}
+use Rattle.dine_waking.proofs.OpenRuns.{OpenKeeps, open_door_leads}
 use Rattle.dine_waking.proofs.Progress as inside
 use Rattle.dine_waking.proofs.Progress.{complete_has_ended, finds_woken, nobody_woken, own_happens, rests_well, takes_letter}
 use Rattle.dine_waking.proofs.Quiet.{still_finished}
@@ -127,13 +124,13 @@ module _ (plan : SeenPlan) (is_plan : IsPlan plan) (at : OpenRun) (keeps : OpenK
     -- it hears the next ring of a neighbour
     hears : (i : ℕ) (rest : List ℕ) → thread.bell ≡ i ∷ rest → (takes_letters (next_event plan s state) || may_think_on at.run.is_open (next_event plan s state)) ≡ true → IsDue
     hears i rest ringing turn = (
-          record { run = record at.run { threads = slice_set at.run.threads s (record { doing = HasToTake i; bell = rest }) }; doors = set_door at.doors s (record door { thinker = at_door.Busy }) },
-          ToHear (record {
-            hears = record { goes_on = on; turn = turn; i = i; front = []; rest = rest; bell = ringing; first = refl; world = refl; as_open = refl; threads = refl };
-            door = set_here at.doors s (record door { thinker = at_door.Busy });
-            others = set_other at.doors s (record door { thinker = at_door.Busy });
-          }),
-        )
+      record { run = record at.run { threads = slice_set at.run.threads s (record { doing = HasToTake i; bell = rest }) }; doors = set_door at.doors s (record door { thinker = at_door.Busy }) },
+      ToHear (record {
+        hears = record { goes_on = on; turn = turn; i = i; front = []; rest = rest; bell = ringing; first = refl; world = refl; as_open = refl; threads = refl };
+        door = set_here at.doors s (record door { thinker = at_door.Busy });
+        others = set_other at.doors s (record door { thinker = at_door.Busy });
+      }),
+    )
 
     -- it hears a ring of those outside
     hears_doorbell : (rest : ℕ) → door.rings ≡ suc rest → IsDue

@@ -1,5 +1,5 @@
 -- What every open run keeps: what a run keeps, and that each thread agrees with its door.
-use Rattle.std.proofs.Common.{◌≡◌, ◌≢◌, ◌⊎◌, ℕ, zero, suc, ◌<◌, Bool, true, false, List, ◌++◌, length, get_or, None, Some, refl, sym, ◌∙◌, ap, subst, inl, inr, arith}
+use Rattle.std.proofs.Common.{◌≡◌, ◌≢◌, ◌⊎◌, ℕ, zero, suc, ◌<◌, Bool, true, false, ◌++◌, length, None, Some, refl, sym, ◌∙◌, ap, subst, inl, inr, arith}
 use Rattle.std.proofs.lemmas.Bool.{cases_eq}
 use Rattle.std.proofs.lemmas.List.{get_or-set_other}
 use Rattle.dine_graph.specs.Plan.{SeenPlan, IsPlan, site_count, edges_of}
@@ -17,7 +17,7 @@ use Rattle.dine_site.specs.NextEvent.{next_event}
 use Rattle.dine_waking.specs.Doors.{Door, DoorStep, LeadsByDoorSteps, Thinker, woken}
 use Rattle.dine_waking.specs.Doors as at_door
 use Rattle.dine_waking.specs.OpenRuns.{ActsOnCall, AsksAtDoor, Due, DueStep, Free, FreeStep, HearsDoorbell, HearsOnCall, LeadsByOpenSteps, OpenRun, OpenStep, RingsDoorbell, RingsOnCall, SleepsOnCall, TakesOnCall, ToAct, ToAsk, ToHear, ToHearDoorbell, ToRing, ToRingDoorbell, ToSleep, ToTake, ToWake, WakesOnCall, first_open_run}
-use Rattle.dine_waking.specs.Runs.{ByActing, ByDoorbell, ByHearing, ByRinging, BySleeping, ByTaking, ByWaking, Doing, GoesOn, HasToRing, HasToTake, HasToWake, IsToBeWoken, LeadsBySteps, Run, RunStep, Sleeps, Thread, after_ringing, doing_after, first_moment, fresh_thread, is_woken_by, thread_after_ring, thread_of}
+use Rattle.dine_waking.specs.Runs.{ByActing, ByDoorbell, ByHearing, ByRinging, BySleeping, ByTaking, ByWaking, Doing, GoesOn, HasToRing, HasToTake, HasToWake, IsToBeWoken, LeadsBySteps, Run, RunStep, Sleeps, Thread, after_ringing, doing_after, first_moment, is_woken_by, thread_after_ring, thread_of}
 use Rattle.dine_waking.proofs.Agreement.{Agrees, asking_agrees, busy_agrees, busy_if, free_thinker, hearing_busy, is_asleep, is_off, off_after, off_ringing, rung_agrees, woken_agrees, woken_busy}
 use Rattle.dine_waking.proofs.Bells.{Fits, KeepsBell, RunKeeps, start_fresh, start_keeps, thread_elsewhere, thread_here, two_here, two_other, two_there}
 use Rattle.dine_waking.proofs.Bounded.{step_keeps, step_opens}

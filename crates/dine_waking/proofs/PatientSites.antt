@@ -1,14 +1,13 @@
 -- The lower of two sites eats on although it was rung for, as often as its patience allows.
-use Rattle.std.proofs.Common.{◌≡◌, ℕ, zero, suc, ◌+◌, ◌*◌, ◌-◌, ◌<◌, ◌||◌, Bool, true, false, List, [], ◌∷◌, refl, sym, ◌∙◌, ap, subst, arith}
+use Rattle.std.proofs.Common.{◌≡◌, ℕ, zero, suc, ◌+◌, ◌*◌, ◌-◌, ◌<◌, ◌||◌, Bool, true, false, List, [], ◌∷◌, refl, ◌∙◌, ap, subst, arith}
 use Rattle.dine_graph.specs.Plan.{SeenPlan}
-use Rattle.dine_rules.specs.declared.events.EventKind.TheVariants as event
 use Rattle.dine_rules.specs.declared.phase.Phase.{Phase}
 use Rattle.dine_rules.specs.declared.phase.Phase.TheVariants as phase
 use Rattle.dine_waking.specs.Examples.{at_work, two_sites}
 use Rattle.dine_waking.specs.MannerExamples.{rung_run, rung_too_late_run}
 use Rattle.dine_waking.specs.Manners.{checked_after, finds_no_ring, has_checked, meals_so_far}
 use Rattle.dine_waking.specs.Patience.{LeadsPatiently, PatientStep, skips_after, skips_then}
-use Rattle.dine_waking.specs.Runs.{GoesOn, Run, RunStep, Thread}
+use Rattle.dine_waking.specs.Runs.{GoesOn, Run, Thread}
 use Rattle.dine_waking.proofs.Patient.{skips_count, skips_stay}
 use Rattle.dine_waking.proofs.TwoSites.{at, begins, ends, hungers, site}
 

@@ -8,10 +8,10 @@ use Rattle.dine_waking.specs.Manners.{HasRungForAll, HoldsCleanFork, HoldsDirtyF
 use Rattle.dine_waking.specs.Patience.{LeadsPatiently, PatientStep, skips_after}
 use Rattle.dine_waking.specs.Runs.{LeadsBySteps, Run, ThreadStep, number_there}
 use Rattle.dine_waking.proofs.Bells.{RunKeeps}
-use Rattle.dine_waking.proofs.Overtaking.{IsGone, IsUnused, clean_eats_first, far, gone_for_long, none_behind, same_or_more, state, where_request}
+use Rattle.dine_waking.proofs.Overtaking.{IsUnused, clean_eats_first, far, gone_for_long, none_behind, same_or_more, state, where_request}
 use Rattle.dine_waking.proofs.Patient.{patient_leads, patient_meals, unchecked_meals}
 use Rattle.dine_waking.proofs.Polite.{HasTaken, none_begins, one_begins}
-use Rattle.dine_waking.proofs.SiteMoves.{longer_forks, step_put, steps_eat, steps_put}
+use Rattle.dine_waking.proofs.SiteMoves.{longer_forks, step_put, steps_put}
 use Rattle.dine_waking.proofs.Waiters.{back, end, number, seen_there}
 
 module _ (plan : SeenPlan) (is_plan : IsPlan plan) (s i : ℕ) (is_site : s < site_count plan) (within : i < length (edges_of plan s)) (patience : ℕ → ℕ) where

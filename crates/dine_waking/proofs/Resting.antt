@@ -35,7 +35,7 @@ use Rattle.dine_waking.proofs.Asleep.{all_or_one}
 use Rattle.dine_waking.proofs.Calm.{IsCalm, thinks}
 use Rattle.dine_waking.proofs.Letters.{first_at, first_elsewhere}
 use Rattle.dine_waking.proofs.Quiet.{first_is_next, is_idle, next_is_first, still_finished}
-use Rattle.dine_waking.proofs.Queues.{IsTaken, take_at, take_happens, taken_here, takes_first}
+use Rattle.dine_waking.proofs.Queues.{IsTaken, take_at, take_happens, takes_first}
 use Rattle.dine_waking.proofs.Unwanted.{StaysQuiet, stays_quiet}
 
 -- ---- a site whose first event is to grow hungry, or that has none

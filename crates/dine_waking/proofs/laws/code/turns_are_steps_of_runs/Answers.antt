@@ -1,5 +1,5 @@
 -- by the step, and by the manner
-use Rattle.std.proofs.Common.{◌≡◌, ◌⊎◌, ℕ, ◌||◌, Bool, true, false, [], Option, None, Some, inl, inr, refl, sym, ◌∙◌, ap, slice_set, true≢false}
+use Rattle.std.proofs.Common.{◌≡◌, ◌⊎◌, ℕ, ◌||◌, Bool, true, false, Option, None, Some, inl, inr, refl, sym, ◌∙◌, ap, slice_set, true≢false}
 use Rattle.std.proofs.lemmas.Option.{same_Some}
 use Rattle.dine_rules.specs.declared.events.EventKind.{EventKind}
 use Rattle.dine_rules.specs.declared.events.EventKind.TheVariants as event
