@@ -1,4 +1,7 @@
 //! Executors, which take tasks for the sites of a run while it goes on.
+ghost use Rattle.std.specs.Prelude.{◌≡◌, IfErr};
+ghost use Rattle.dine_jobs.specs.Queues.{task_in};
+
 use crate::job::Job;
 use crate::queue::{Queue, SubmitError};
 use crate::table::Table;
@@ -105,7 +108,9 @@ impl<K: Drop, O: Drop> Executor<K, O> {
     /// # Errors
     ///
     /// `Closed`, `Full`, `NoSite` or `Memory`, each with the task.
-    pub fn execute<R: Wait>(&self, rt: &R, site: SiteId, task: K) -> Result<(), SubmitError<K>> {
+    pub fn execute<R: Wait>(&self, rt: &R, site: SiteId, task: K) -> Result<(), SubmitError<K>>
+        ensures handed_back { IfErr result (λ refused. task_in refused ≡ task) }
+    {
         self.put(rt, site, task, None)
     }
 
@@ -120,7 +125,9 @@ impl<K: Drop, O: Drop> Executor<K, O> {
         alloc: Global,
         site: SiteId,
         task: K,
-    ) -> Result<Ticket<O>, SubmitError<K>> {
+    ) -> Result<Ticket<O>, SubmitError<K>>
+        ensures handed_back { IfErr result (λ refused. task_in refused ≡ task) }
+    {
         let Ok((reply, mine)) = open_ticket(alloc) else {
             return Err(SubmitError::Memory(task));
         };
@@ -136,7 +143,9 @@ impl<K: Drop, O: Drop> Executor<K, O> {
         site: SiteId,
         task: K,
         reply: Option<Sender<O, Global>>,
-    ) -> Result<(), SubmitError<K>> {
+    ) -> Result<(), SubmitError<K>>
+        ensures handed_back { IfErr result (λ refused. task_in refused ≡ task) }
+    {
         let Some(queue) = self.shared.queues.get(site.0 as usize) else {
             return Err(SubmitError::NoSite(task));
         };
@@ -223,7 +232,9 @@ impl<K: Drop, O: Drop> Executor<K, O> {
 }
 
 // Returns the refusal with the task alone.
-fn without_reply<K: Drop, O: Drop>(refused: SubmitError<Submitted<K, O>>) -> SubmitError<K> {
+fn without_reply<K: Drop, O: Drop>(refused: SubmitError<Submitted<K, O>>) -> SubmitError<K>
+    ensures { task_in result ≡ (task_in refused).task }
+{
     match refused {
         SubmitError::Closed(it) => SubmitError::Closed(it.task),
         SubmitError::Full(it) => SubmitError::Full(it.task),

@@ -1,6 +1,6 @@
 //! Runs that are open: tasks arrive at their sites while they go on. They go in epochs, each of which is a run of the
 //! plan, so they have no end that the plan gives.
-ghost use Rattle.std.specs.Prelude.{◌≡◌, ◌≤◌, ℕ, IfOk, vec_capacity, vec_len};
+ghost use Rattle.std.specs.Prelude.{◌≡◌, ◌≤◌, ◌↔◌, ℕ, IfOk, IfSome, IsNone, Some, slice_get, vec_capacity, vec_len};
 ghost use Rattle.dine_jobs.specs.Epochs.{HasEpochs};
 ghost use Rattle.dine_jobs.specs.JobRuns.{IsDoneRun};
 ghost use Rattle.dine_jobs.specs.declared.executor.Worker.{Worker as Workers};
@@ -43,11 +43,23 @@ pub struct OpenDone<T: Drop> {
 
 impl<T: Drop> OpenDone<T> {
     /// Returns the value of an edge. It is None exactly if there is no such edge.
-    pub fn value(&self, edge: EdgeId) -> Option<&T> {
-        match self.values.get(edge.0 as usize) {
+    pub fn value(&self, edge: EdgeId) -> Option<&T>
+        ensures value { IfSome result (λ value. (it : _)
+            × (slice_get self.now.values.items edge.0 ≡ Some it) × (it.value ≡ value.now)) }
+        ensures none { vec_len self.now.values ≤ edge.0 ↔ IsNone result }
+    {
+        match self.value_at(edge) {
             Some(it) => Some(&it.value),
             None => None,
         }
+    }
+
+    // Returns the value of an edge with its number. Split for the checker: see CONTRIBUTING, cost of proofs.
+    fn value_at(&self, edge: EdgeId) -> Option<&EdgeValue<T>>
+        ensures value { IfSome result (λ it. slice_get self.now.values.items edge.0 ≡ Some it.now) }
+        ensures none { vec_len self.now.values ≤ edge.0 ↔ IsNone result }
+    {
+        self.values.get(edge.0 as usize)
     }
 }
 

@@ -1,5 +1,5 @@
 //! Tickets, by which whoever submitted a task waits for what it returns.
-ghost use Rattle.std.specs.Prelude.{Some};
+ghost use Rattle.std.specs.Prelude.{◌≡◌, IfErr, Some};
 ghost use Rattle.dine_jobs.specs.Queues.{ticket_error_words};
 
 use crossbeam_channel::{Receiver, RecvTimeoutError, Sender, TryRecvError, bounded};
@@ -51,7 +51,9 @@ impl<O: Drop> Ticket<O> {
     /// # Errors
     ///
     /// `Gone` if the task will not be done.
-    pub fn wait<R: Wait>(self, rt: &R) -> Result<O, TicketError> {
+    pub fn wait<R: Wait>(self, rt: &R) -> Result<O, TicketError>
+        ensures gone { IfErr result (λ error. error ≡ TicketError.Gone) }
+    {
         match self.from.recv(rt) {
             Ok(output) => Ok(output),
             Err(_) => Err(TicketError::Gone),
