@@ -1,7 +1,8 @@
 //! The queue of a site: the tasks that it has still to begin.
 ghost use Rattle.std.specs.Prelude.{◌≡◌, ◌∷◌, ◌++◌, ◌&&◌, ◌||◌, ◌⊎◌, [], IfErr, IfNone, IfOk, IfSome, OnOk};
 ghost use Rattle.std.specs.Prelude.{IsNone, Some, false, length, nat_lt, not, true};
-ghost use Rattle.dine_jobs.specs.Queues.{MayRefuse, submit_error_words, task_in};
+ghost use Rattle.dine_jobs.specs.Queues.{IsAsked, IsClosed, IsEnded, IsPut, IsTaken, MayRefuse, seen_queue};
+ghost use Rattle.dine_jobs.specs.Queues.{submit_error_words, task_in};
 
 use std::alloc::Global;
 use std::collections::VecDeque;
@@ -82,9 +83,8 @@ impl<K: Drop> Queue<K> {
 
     // Takes the task, and returns whether the site has to be rung: the step `Submits` of a door in `dine_waking`.
     pub(crate) fn put(&mut self, task: K) -> Result<bool, SubmitError<K>>
-        ensures was_open { OnOk result (self.old.closed ≡ false) }
+        ensures door { IfOk result (λ rings. IsPut (seen_queue self.old) (seen_queue self.new) rings) }
         ensures tasks { OnOk result (self.new.tasks.items ≡ self.old.tasks.items ++ task ∷ []) }
-        ensures rings { IfOk result (λ rings. (rings ≡ self.old.waits) × (self.new.waits ≡ false)) }
         ensures closed { self.new.closed ≡ self.old.closed }
         ensures over { self.new.over ≡ self.old.over }
         ensures refused { IfErr result (λ refused. (task_in refused ≡ task)
@@ -106,11 +106,8 @@ impl<K: Drop> Queue<K> {
 
     // Closes the queue, and returns whether the site has to be rung: the step `Closes`.
     pub(crate) fn close(&mut self) -> bool
+        ensures door { IsClosed (seen_queue self.old) (seen_queue self.new) result }
         ensures tasks { self.new.tasks ≡ self.old.tasks }
-        ensures closed { self.new.closed ≡ true }
-        ensures over { self.new.over ≡ self.old.over }
-        ensures waits { self.new.waits ≡ false }
-        ensures rings { result ≡ self.old.waits }
     {
         self.closed = true;
         mem::replace(&mut self.waits, false)
@@ -118,11 +115,8 @@ impl<K: Drop> Queue<K> {
 
     // Ends the epoch, and returns whether the site has to be rung: the step `Ends`. Its tasks wait for the next epoch.
     pub(crate) fn end_epoch(&mut self) -> bool
+        ensures door { IsEnded (seen_queue self.old) (seen_queue self.new) result }
         ensures tasks { self.new.tasks ≡ self.old.tasks }
-        ensures closed { self.new.closed ≡ self.old.closed }
-        ensures over { self.new.over ≡ true }
-        ensures waits { self.new.waits ≡ false }
-        ensures rings { result ≡ self.old.waits }
     {
         self.over = true;
         mem::replace(&mut self.waits, false)
@@ -145,12 +139,8 @@ impl<K: Drop> Queue<K> {
     // Whether the site is called: to a task, or to its end. If not, it is to be rung for the next of these. This is the
     // step `Asks`.
     pub(crate) fn calls(&mut self) -> bool
-        ensures called { result
-            ≡ (self.old.closed || self.old.over || nat_lt 0 (length self.old.tasks.items)) }
+        ensures door { IsAsked (seen_queue self.old) (seen_queue self.new) result }
         ensures tasks { self.new.tasks ≡ self.old.tasks }
-        ensures closed { self.new.closed ≡ self.old.closed }
-        ensures over { self.new.over ≡ self.old.over }
-        ensures waits { self.new.waits ≡ not result }
     {
         let calls = self.closed || self.over || !self.tasks.is_empty();
         self.waits = !calls;
@@ -160,6 +150,7 @@ impl<K: Drop> Queue<K> {
     // Takes the first task out, if the epoch goes on or if it is the first one of the site in it: the step `Begins`.
     pub(crate) fn next(&mut self, is_first: bool) -> Option<K>
         ensures some { IfSome result (λ task. self.old.tasks.items ≡ task ∷ self.new.tasks.items) }
+        ensures door { IfSome result (λ task. IsTaken (seen_queue self.old) (seen_queue self.new)) }
         ensures over { self.old.over ≡ true → is_first ≡ false → IsNone result }
         ensures none { IfNone result (((self.old.over ≡ true) × (is_first ≡ false)) ⊎ (self.old.tasks.items ≡ [])) }
         ensures left { IfNone result (self.new.tasks.items ≡ self.old.tasks.items) }

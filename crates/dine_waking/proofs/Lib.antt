@@ -37,3 +37,4 @@ pub mod Agreement
 pub mod OpenRuns
 pub mod OpenProgress
 pub mod OpenBounds
+pub mod QueueDoors

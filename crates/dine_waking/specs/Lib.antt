@@ -1,6 +1,7 @@
 pub mod Sleeping
 pub mod Resting
 pub mod Doors
+pub mod Queues
 pub mod Runs
 pub mod Examples
 pub mod Manners

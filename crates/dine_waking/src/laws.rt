@@ -34,7 +34,8 @@ pub use manners::{
     unheard_neighbours_wait_for_all_meals, waiters_wait_for_one_meal_of_each_polite_neighbour,
 };
 pub use open_doors::{
-    called_sites_are_rung_for, closed_doors_end_the_run, worlds_at_rest_have_served,
+    called_sites_are_rung_for, closed_doors_end_the_run, queues_step_as_doors_do,
+    worlds_at_rest_have_served,
 };
 pub use open_runs::{
     open_runs_are_bounded, open_runs_are_runs_with_doors, open_runs_at_rest_have_served,
