@@ -43,8 +43,8 @@ pub record IsEnded (old new : SeenQueue) (rings : Bool) : Type 0 where
   pub waits : new.waits ≡ false
   pub has_to_ring : rings ≡ old.waits
 
--- The site asked whether it is called: to a task, or to its end. If not, it waits.
-pub record IsAsked (old new : SeenQueue) (called : Bool) : Type 0 where
+-- The site asked whether it is called, to a task or to its end, and got this answer. If it is not called, it waits.
+pub record IsAnswered (old new : SeenQueue) (called : Bool) : Type 0 where
   pub is_called : called ≡ ((old.closed || old.over) || nat_lt 0 old.tasks)
   pub tasks : new.tasks ≡ old.tasks
   pub closed : new.closed ≡ old.closed

@@ -1,7 +1,7 @@
 //! The queue of a site: the tasks that it has still to begin.
 ghost use Rattle.std.specs.Prelude.{◌≡◌, ◌∷◌, ◌++◌, ◌&&◌, ◌||◌, ◌⊎◌, [], IfErr, IfNone, IfOk, IfSome, OnOk};
 ghost use Rattle.std.specs.Prelude.{IsNone, Some, false, length, nat_lt, not, true};
-ghost use Rattle.dine_jobs.specs.Queues.{IsAsked, IsClosed, IsEnded, IsPut, IsTaken, MayRefuse, seen_queue};
+ghost use Rattle.dine_jobs.specs.Queues.{IsAnswered, IsClosed, IsEnded, IsPut, IsTaken, MayRefuse, seen_queue};
 ghost use Rattle.dine_jobs.specs.Queues.{submit_error_words, task_in};
 
 use std::alloc::Global;
@@ -139,7 +139,7 @@ impl<K: Drop> Queue<K> {
     // Whether the site is called: to a task, or to its end. If not, it is to be rung for the next of these. This is the
     // step `Asks`.
     pub(crate) fn calls(&mut self) -> bool
-        ensures door { IsAsked (seen_queue self.old) (seen_queue self.new) result }
+        ensures door { IsAnswered (seen_queue self.old) (seen_queue self.new) result }
         ensures tasks { self.new.tasks ≡ self.old.tasks }
     {
         let calls = self.closed || self.over || !self.tasks.is_empty();

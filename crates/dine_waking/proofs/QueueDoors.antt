@@ -1,7 +1,7 @@
 -- The steps of a queue are steps of its door.
 use Rattle.std.proofs.Common.{◌≡◌, ℕ, suc, ◌+◌, ◌||◌, nat_lt, not, Bool, true, false, cond, if◌then◌else◌, refl, sym, ◌∙◌, ap}
 use Rattle.std.proofs.lemmas.Bool.{cond-false, cond-true}
-use Rattle.dine_jobs.specs.Queues.{IsAsked, IsClosed, IsEnded, IsPut, IsTaken, SeenQueue}
+use Rattle.dine_jobs.specs.Queues.{IsAnswered, IsClosed, IsEnded, IsPut, IsTaken, SeenQueue}
 use Rattle.dine_waking.specs.Doors.{Asks, Begins, Busy, Closes, Door, DoorStep, Ends, Submits, Thinker, Thinks, is_called}
 use Rattle.dine_waking.specs.Queues.{IsDoorOf, with_answer, with_queue, with_ring}
 
@@ -35,11 +35,11 @@ module _ (door : Door) (old new : SeenQueue) (is : IsDoorOf old door) where
       refl (taken.closed ∙ sym is.closed) (taken.over ∙ sym is.over) (taken.waits ∙ sym is.waits) refl)
 
   -- the queue calls the site just if the door does
-  called_at : (called : Bool) → IsAsked old new called → is_called door ≡ called
+  called_at : (called : Bool) → IsAnswered old new called → is_called door ≡ called
   called_at called asked = ap (λ (b : Bool). (b || door.over) || nat_lt 0 door.tasks) is.closed ∙ ap (λ (b : Bool). (old.closed || b) || nat_lt 0 door.tasks) is.over
       ∙ ap (λ (n : ℕ). (old.closed || old.over) || nat_lt 0 n) is.tasks ∙ sym asked.is_called
 
-  pub calls_asks : (called : Bool) → door.thinker ≡ Busy → IsAsked old new called → DoorStep door (with_answer called (with_queue door new))
+  pub calls_asks : (called : Bool) → door.thinker ≡ Busy → IsAnswered old new called → DoorStep door (with_answer called (with_queue door new))
   calls_asks true busy asked = Asks busy (same_door new.tasks door.tasks new.closed door.closed new.over door.over new.waits false door.owed door.owed door.rings door.thinker
       (asked.tasks ∙ sym is.tasks) (asked.closed ∙ sym is.closed) (asked.over ∙ sym is.over) asked.waits refl
       ∙ sym (cond-true {A = Door} (is_called door) (record door { waits = false }) (record door { waits = true; thinker = Thinks }) (called_at true asked)))

@@ -5,7 +5,7 @@ ghost use Rattle.dine_graph.specs.Plan.{IsPlan, SeenPlan, site_count};
 ghost use Rattle.dine_rules.specs.Local.{is_thinking};
 ghost use Rattle.dine_rules.specs.World.{IsComplete, Reaches, WorldState, state_of};
 ghost use Rattle.dine_rules.specs.declared.events.Event.{Event};
-ghost use Rattle.dine_jobs.specs.Queues.{IsAsked, IsClosed, IsEnded, IsPut, IsTaken, SeenQueue};
+ghost use Rattle.dine_jobs.specs.Queues.{IsAnswered, IsClosed, IsEnded, IsPut, IsTaken, SeenQueue};
 ghost use Rattle.dine_waking.specs.Doors.{AllRestAtDoors, Busy, Door, DoorStep, IsReachedDoor, Sleeps, is_called};
 ghost use Rattle.dine_waking.specs.Doors.{is_ended};
 ghost use Rattle.dine_waking.specs.Queues.{IsDoorOf, with_answer, with_queue, with_ring};
@@ -37,9 +37,9 @@ pub fn closed_doors_end_the_run()
         → ((s : ℕ) → s < site_count plan → (doors s).owed ≡ 0) → IsComplete plan world }
 {}
 
-/// The queue of a site does what its door does. Each clause `door` of a function of `dine_jobs` says what it does to the
-/// queue, and that is a step of the door: `Queue::put` is `Submits`, `close` is `Closes`, `end_epoch` is `Ends`, `calls`
-/// is `Asks`, and `next` is `Begins`. Who put, closed or ended owes a ring exactly if the function returns so.
+/// The queue of a site does what its door does. The clause `door` of a function of `Queue` in `dine_jobs` says what it
+/// does to the queue, and that is a step of the door: `put` is `Submits`, `close` is `Closes`, `end_epoch` is `Ends`,
+/// `calls` is `Asks`, and `next` is `Begins`. Who put, closed or ended owes a ring exactly if the function returns so.
 pub fn queues_step_as_doors_do()
     ensures put { (door : Door) (old new : SeenQueue) (rings : Bool) → IsDoorOf old door → IsPut old new rings
         → DoorStep door (with_ring rings (with_queue door new)) }
@@ -48,7 +48,7 @@ pub fn queues_step_as_doors_do()
     ensures end_epoch { (door : Door) (old new : SeenQueue) (rings : Bool) → IsDoorOf old door → IsEnded old new rings
         → DoorStep door (with_ring rings (with_queue door new)) }
     ensures calls { (door : Door) (old new : SeenQueue) (called : Bool) → IsDoorOf old door → door.thinker ≡ Busy
-        → IsAsked old new called → DoorStep door (with_answer called (with_queue door new)) }
+        → IsAnswered old new called → DoorStep door (with_answer called (with_queue door new)) }
     ensures next { (door : Door) (old new : SeenQueue) → IsDoorOf old door → door.thinker ≡ Busy → IsTaken old new
         → DoorStep door (with_queue door new) }
 {}
