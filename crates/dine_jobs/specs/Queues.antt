@@ -15,6 +15,7 @@ pub record SeenQueue : Type 0 where
   pub over : Bool
   pub waits : Bool
 
+-- a queue of the code, as its door has it
 abbrev pub seen_queue : {K : Type 0} → Queue K → SeenQueue
 seen_queue queue = record { tasks = length queue.tasks.items; closed = queue.closed; over = queue.over; waits = queue.waits }
 
