@@ -15,6 +15,9 @@ from lib.process import BOUND
 
 # The number in the middle, which is one of them.
 middle = statistics.median_high
+# The share of the processors' time in a round that a host may keep from this machine, and how often a round in which
+# it kept more is done again.
+MOST_STOLEN, REPEATS = 0.01, 4
 
 
 def arguments_of(text, **numbers):
@@ -55,12 +58,32 @@ def counts_in(said):
     return {name: float(count) if "." in count else int(count) for name, count in found}
 
 
+def processor_times():
+    """Returns how much time of the processors a host has kept from this machine, and all of their time."""
+    with open("/proc/stat", "rb") as stat:
+        times = [*map(int, stat.readline().split()[1:9])]
+    return times[7], sum(times)
+
+
+def round_of(commands, plan, told):
+    """Runs the commands in turn on a plan. Returns the milliseconds that each told, and the share that was stolen."""
+    stolen, all_of_it = processor_times()
+    times = {name: counts_of(command, plan)[told] / 1000 for name, command in commands.items()}
+    stolen, all_of_it = (now - before for now, before in zip(processor_times(), (stolen, all_of_it)))
+    return times, stolen / max(all_of_it, 1)
+
+
 def times_of(commands, plan, rounds, told="median"):
-    """Runs the commands in turn on a plan, and returns the milliseconds that each told in each round, by its name."""
-    times = {name: [] for name in commands}
-    for name in [*commands] * rounds:
-        times[name].append(counts_of(commands[name], plan)[told] / 1000)
-    return times
+    """Runs the commands in turn on a plan in each round. Returns the milliseconds that each told in each round, by its
+    name, and the largest share of the processors' time that was stolen in a round. A round with too large a share is
+    done again, and does not count if one with less comes of it."""
+    done = []
+    for _ in range(rounds):
+        tries = [round_of(commands, plan, told)]
+        while tries[-1][1] > MOST_STOLEN and len(tries) <= REPEATS:
+            tries.append(round_of(commands, plan, told))
+        done.append(min(tries, key=lambda it: it[1]))
+    return {name: [times[name] for times, _ in done] for name in commands}, max(share for _, share in done)
 
 
 def ratio(times, one, other):

@@ -36,8 +36,10 @@ KEYS = {table: {key: (since, TYPES[kind]) for key, (since, kind) in its.items()}
 LIMITS = of_the_page("plan_places", "LIMITS")
 NEEDED = {"site": "name", "job": "name", "edge": "ends"}
 KINDS = {int: "a whole number from 0", list: "an array", str: "a text in quotes", bool: "true or false"}
+# What is to be mended for a cause for which one key, or the length of one list, says enough.
+MENDED = of_the_page("plan_places", "MENDED")
 # The causes that are about two places; of the others the first place counts.
-TWO_PLACES = {"SiteTwice", "EdgeTwice", "TwoActs"}
+TWO_PLACES = {"TwoActs", *(cause for cause, its in MENDED.items() if "first" in its)}
 NAME = re.compile(rf"[A-Za-z0-9_-]{{1,{LIMITS['MAX_NAME']}}}")
 # A number that is too long for TOML, although tomllib reads it.
 LONG_NUMBER = re.compile(r"[+-]?[0-9_]{19,}")
@@ -146,8 +148,9 @@ def nearest(word, words):
     return f'did you mean "{found[0]}"?' if found else "there is " + ", ".join(f'"{it}"' for it in words[:8])
 
 
-def places(plan, cause, number):
-    """Yields the places that a cause is about, the one to mend first. `number` is that of its site or edge."""
+def places(plan, cause, kind, number):
+    """Yields the places that a cause is about, the one to mend first. `kind` and `number` are those of its site or
+    edge, if it has one."""
     match cause:
         case "Version":
             if "version" in plan.data:
@@ -155,28 +158,43 @@ def places(plan, cause, number):
             yield from strays_of_version(plan)
             yield 0, 0, "version = 1 is missing; version = 2 if edges have values or sites resign"
         case "UnknownKey":
-            for kind, path, table in plan.tables:
-                allowed = [it for it, (since, _) in KEYS[kind].items() if since <= plan.data["version"]]
+            for of, path, table in plan.tables:
+                allowed = [it for it, (since, _) in KEYS[of].items() if since <= plan.data["version"]]
                 for key in (it for it in table if it not in allowed):
-                    known = key in KEYS[kind]
-                    needs = f"this key needs version = {KEYS[kind][key][0]}" if known else nearest(key, allowed)
+                    known = key in KEYS[of]
+                    needs = f"this key needs version = {KEYS[of][key][0]}" if known else nearest(key, allowed)
                     yield plan.key(needs, *path, key)
         case "MissingKey":
-            for kind, path, table in plan.tables:
-                if kind in NEEDED and NEEDED[kind] not in table:
-                    yield plan.key(f"{NEEDED[kind]} is missing in this {kind}", *path)
+            for of, path, table in plan.tables:
+                if of in NEEDED and NEEDED[of] not in table:
+                    yield plan.key(f"{NEEDED[of]} is missing in this {of}", *path)
         case "WrongKind":
-            for kind, path, table in plan.tables:
+            for of, path, table in plan.tables:
                 for key, value in table.items():
-                    yield from wrong_kinds(plan, (*path, key), value, KEYS[kind][key][1])
-        case "TooManySites":
-            yield plan.key(f"site {LIMITS['MAX_SITES'] + 1} of {len(plan.data['site'])}", "site", LIMITS["MAX_SITES"])
-        case "TooManyEdges":
-            yield plan.key(f"edge {LIMITS['MAX_EDGES'] + 1} of {len(plan.data['edge'])}", "edge", LIMITS["MAX_EDGES"])
-        case "UnknownEnd" | "Loop" | "EdgeTwice" | "ValueTooLarge":
-            yield from places_of_edge(plan, cause, number, "edge", number)
-        case _:
-            yield from places_of_site(plan, cause, number, "site", number)
+                    yield from wrong_kinds(plan, (*path, key), value, KEYS[of][key][1])
+    if cause in MENDED:
+        yield from mended(plan, MENDED[cause], kind, number)
+    if kind:
+        yield from places_of(plan, cause, kind, number)
+        yield plan.key(f"this {kind}", kind, number)
+
+
+def mended(plan, its, kind, number):
+    """Yields what the list says of a cause."""
+    if "list" in its:
+        name, most = its["list"], LIMITS[its["most"]]
+        yield plan.key(f"{name} {most + 1} of {len(plan.data[name])}", name, most)
+    elif "numbers" in its:
+        own, most = (it for it in plan.tables if it[1][:2] == (kind, number)), LIMITS[its["most"]]
+        found = [(*path, key) for _, path, table in own for key in its["numbers"] if table.get(key, 0) > most]
+        yield from (plan.value(f"at most {most:,}", *it) for it in found)
+    else:
+        key, values = its["key"], [it.get(its["key"]) for it in plan.data[kind]]
+        yield plan.value(its.get("said") or nearest(values[number], its["words"]), kind, number, key)
+        if "first" in its:
+            # The two ends of an edge may be in the other order.
+            of = [set(it) if isinstance(it, list) else it for it in values]
+            yield plan.value(its["first"], kind, of.index(of[number]), key)
 
 
 def strays_of_version(plan):
@@ -200,47 +218,24 @@ def wrong_kinds(plan, path, value, wanted):
         yield plan.value("ends has to have two names", *path)
 
 
-def places_of_edge(plan, cause, number, *path):
-    """Yields what a cause that is about the edge at the path is about."""
-    ends = plan.data["edge"][number]["ends"]
+def places_of(plan, cause, *path):
+    """Yields what a cause that is about the site or the edge at the path is about."""
+    tables = [it for it in plan.tables if it[1][:2] == path]
     match cause:
         case "UnknownEnd":
+            ends = tables[0][2]["ends"]
             for place in (place for place, end in enumerate(ends) if end not in plan.names):
                 yield plan.value(nearest(ends[place], plan.names), *path, "ends", place)
-        case "Loop":
-            yield plan.value("an edge joins two different sites", *path, "ends")
-        case "EdgeTwice":
-            first = [set(it["ends"]) for it in plan.data["edge"]].index(set(ends))
-            yield plan.value("these two are joined already", *path, "ends")
-            yield plan.value("by this edge", "edge", first, "ends")
-        case "ValueTooLarge":
-            yield plan.value(f"at most {LIMITS['MAX_NUMBER']:,}", *path, "value")
-
-
-def places_of_site(plan, cause, number, *path):
-    """Yields what a cause that is about the site at the path is about."""
-    tables = [it for it in plan.tables if it[1][:2] == path]
-    jobs = [(at, table) for kind, at, table in tables if kind == "job"]
-    match cause:
         case "BadName":
             for kind, at, table in tables:
                 if not NAME.fullmatch(table.get("name", "")):
                     yield plan.value(bad_name(kind, table.get("name", "")), *at, "name")
-        case "SiteTwice":
-            yield plan.value("this name is taken", *path, "name")
-            yield plan.value("by this site", "site", plan.names.index(plan.names[number]), "name")
         case "TooManyJobs":
-            yield plan.key(f"it has {len(plan.data['site'][number]['jobs']):,}", *path, "jobs")
-        case "TurnsTooLarge" | "ActTooLarge":
-            keys, most = (("turns",), "MAX_TURNS") if cause == "TurnsTooLarge" else (("add", "set"), "MAX_NUMBER")
-            found = [(*at, key) for at, job in jobs for key in keys if job.get(key, 0) > LIMITS[most]]
-            yield from (plan.value(f"at most {LIMITS[most]:,}", *it) for it in found)
+            yield plan.key(f"it has {len(tables[0][2]['jobs']):,}", *path, "jobs")
         case "TwoActs":
-            for at in (at for at, job in jobs if "add" in job and "set" in job):
+            for at in (at for _, at, job in tables if "add" in job and "set" in job):
                 yield plan.key("add changes the value of each edge", *at, "add")
                 yield plan.key("and set replaces it", *at, "set")
-        case "UnknownPolicy":
-            yield plan.value(nearest(plan.data["site"][number]["on_fault"], ["go", "resign"]), *path, "on_fault")
 
 
 def bad_name(kind, name):
@@ -347,7 +342,7 @@ def explained(name, source, line):
     _, cause, kind, number = REFUSAL.fullmatch(line).groups()
     sentence, text = of_the_page("refusals", "SENTENCES")[cause], source.decode(errors="replace")
     try:
-        found = no_toml(source) if cause == "NotToml" else places(Plan(source.decode()), cause, int(number or 0))
+        found = no_toml(source) if cause == "NotToml" else places(Plan(source.decode()), cause, kind, int(number or 0))
         spots = [*islice(found, 2 if cause in TWO_PLACES else 1)]
     except (LookupError, AttributeError, TypeError, ValueError):
         # tomllib and the program may read a text of TOML differently. Then there is the sentence alone.

@@ -37,6 +37,20 @@ export const LIMITS = {
   "MAX_NUMBER": 1000000
 };
 // end
+// What is to be mended for a cause for which one key, or the length of one list, says enough: the value of a key, with
+// what is said of it or the words that may be there; a number above a limit; or the first that is too many. `first` is
+// said of the earlier one that has the same value. features/explain.py reads the list as JSON.
+const MENDED = {
+  "SiteTwice": { "key": "name", "said": "this name is taken", "first": "by this site" },
+  "TooManySites": { "list": "site", "most": "MAX_SITES" },
+  "TurnsTooLarge": { "numbers": ["turns"], "most": "MAX_TURNS" },
+  "Loop": { "key": "ends", "said": "an edge joins two different sites" },
+  "EdgeTwice": { "key": "ends", "said": "these two are joined already", "first": "by this edge" },
+  "TooManyEdges": { "list": "edge", "most": "MAX_EDGES" },
+  "ActTooLarge": { "numbers": ["add", "set"], "most": "MAX_NUMBER" },
+  "ValueTooLarge": { "numbers": ["value"], "most": "MAX_NUMBER" },
+  "UnknownPolicy": { "key": "on_fault", "words": ["go", "resign"] }
+};
 const NEEDED_KEYS = { site: "name", job: "name", edge: "ends" };
 const KINDS_SAID = {
   number: "a whole number from 0", text: "a text in quotes", truth: "true or false", array: "an array",
@@ -204,56 +218,56 @@ function wrongKinds(tables) {
   }));
 }
 
-function badNames(tables, number) {
-  const own = tables.filter(({ kind, place }) => ["site", "job"].includes(kind) && place === number);
-  return own.flatMap((table) => {
+// The tables of the site or the edge with this number: a site has those of its jobs too.
+function tablesOf(tables, kind, number) {
+  return tables.filter((it) => (it.kind === kind || (kind === "site" && it.kind === "job")) && it.place === number);
+}
+
+function badNames(tables) {
+  return tables.flatMap((table) => {
     const value = pairOf(table, "name")?.value;
     return value && !NAME.test(textIn(value)) ? [spot(value, "this name")] : [];
   });
 }
 
-function largeNumbers(tables, number, kind, keys, most) {
-  const own = tables.filter((it) => it.kind === kind && it.place === number);
-  const values = own.flatMap((table) => keys.map((key) => pairOf(table, key)?.value).filter(Boolean));
+function largeNumbers(tables, keys, most) {
+  const values = tables.flatMap((table) => keys.map((key) => pairOf(table, key)?.value).filter(Boolean));
   return values.filter((value) => numberIn(value) > most).map((value) => spot(value, `at most ${grouped(most)}`));
 }
 
-// What a cause is about, the first to mend in front. `number` is that of its site or edge.
-function spotsOf(cause, tables, number) {
-  const of = (kind) => tables.filter((it) => it.kind === kind);
-  const table = (kind) => of(kind)[number];
-  const value = (kind, key) => pairOf(table(kind), key)?.value;
+// What MENDED says of a cause, of the tables of its site or edge.
+function spotsByForm({ key, said, words, numbers, list, most }, tables, own) {
+  if (numbers) return largeNumbers(own, numbers, LIMITS[most]);
+  if (list) return [spot(tables.filter((it) => it.kind === list)[LIMITS[most]], `${list} ${LIMITS[most] + 1}`)];
+  const { value } = pairOf(own[0], key);
+  return [spot(value, said ?? nearestOf(textIn(value), words))];
+}
+
+// What a cause is about, the first to mend in front. `kind` and `number` are those of its site or edge. A cause that is
+// neither in MENDED nor here is about its site or edge as a whole.
+function spotsOf(cause, tables, kind, number) {
+  const own = tablesOf(tables, kind, number);
   const missing = () => tables.filter((it) => NEEDED_KEYS[it.kind] && !pairOf(it, NEEDED_KEYS[it.kind]));
-  const names = () => of("site").map((it) => textIn(pairOf(it, "name").value));
+  const names = () => tables.filter((it) => it.kind === "site").map((it) => textIn(pairOf(it, "name").value));
   const causes = {
     Version: () => [spot(pairOf(tables[0], "version")?.value ?? { from: 0, to: 0 }, "write version = 1, or 2")],
     UnknownKey: () => unknownKeys(tables),
     MissingKey: () => missing().map((it) => spot(it, `${NEEDED_KEYS[it.kind]} is missing in this ${it.kind}`)),
     WrongKind: () => wrongKinds(tables),
-    BadName: () => badNames(tables, number),
-    SiteTwice: () => [spot(value("site", "name"), "this name is taken")],
-    TooManySites: () => [spot(of("site")[LIMITS.MAX_SITES], `site ${LIMITS.MAX_SITES + 1}`)],
-    TooManyEdges: () => [spot(of("edge")[LIMITS.MAX_EDGES], `edge ${LIMITS.MAX_EDGES + 1}`)],
-    TooManyJobs: () => [spot(pairOf(table("site"), "jobs"), `more than ${grouped(LIMITS.MAX_JOBS)}`)],
-    TurnsTooLarge: () => largeNumbers(tables, number, "job", ["turns"], LIMITS.MAX_TURNS),
-    ActTooLarge: () => largeNumbers(tables, number, "job", ["add", "set"], LIMITS.MAX_NUMBER),
-    ValueTooLarge: () => largeNumbers(tables, number, "edge", ["value"], LIMITS.MAX_NUMBER),
-    UnknownEnd: () => value("edge", "ends").items.filter((it) => !names().includes(textIn(it)))
+    BadName: () => badNames(own),
+    TooManyJobs: () => [spot(pairOf(own[0], "jobs"), `more than ${grouped(LIMITS.MAX_JOBS)}`)],
+    UnknownEnd: () => pairOf(own[0], "ends").value.items.filter((it) => !names().includes(textIn(it)))
       .map((it) => spot(it, nearestOf(textIn(it), names()))),
-    Loop: () => [spot(value("edge", "ends"), "an edge joins two different sites")],
-    EdgeTwice: () => [spot(value("edge", "ends"), "these two are joined already")],
-    TwoActs: () => of("job").filter((it) => it.place === number && pairOf(it, "add") && pairOf(it, "set"))
+    TwoActs: () => own.filter((it) => pairOf(it, "add") && pairOf(it, "set"))
       .map((it) => spot(pairOf(it, "set"), "add is there too")),
-    UnknownPolicy: () => {
-      const policy = value("site", "on_fault");
-      return [spot(policy, nearestOf(textIn(policy), ["go", "resign"]))];
-    },
   };
-  return causes[cause]?.() ?? [];
+  if (MENDED[cause]) return spotsByForm(MENDED[cause], tables, own);
+  return causes[cause]?.() ?? own.map((it) => spot(it, `this ${it.kind}`));
 }
 
-// Where in a text a refusal is to be mended, and what is said of that, or null. `number` is that of its site or edge.
-export function spotOf(cause, text, number) {
+// Where in a text a refusal is to be mended, and what is said of that, or null. `kind` and `number` are those of its
+// site or edge.
+export function spotOf(cause, text, kind, number) {
   const reader = new Reader(text);
   let tables;
   try {
@@ -263,7 +277,7 @@ export function spotOf(cause, text, number) {
   }
   if (cause === "NotToml") return repeatedKey(tables) ?? longNumber(tables);
   try {
-    return spotsOf(cause, tables, number)[0] ?? null;
+    return spotsOf(cause, tables, kind, number)[0] ?? null;
   } catch {
     return null;
   }

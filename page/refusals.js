@@ -38,7 +38,7 @@ export function faultText(line, text) {
 export function refusalOf(line, text) {
   const [, name, table, number] = /plan refused: \d+ (\w+)(?: at (site|edge) (\d+))?/.exec(line) ?? [];
   if (!SENTENCES[name]) return { sentence: line, range: null };
-  const spot = spotOf(name, text, Number(number ?? 0));
+  const spot = spotOf(name, text, table, Number(number ?? 0));
   const where = table ? ` It is ${table} ${number}, counted from 0.` : "";
   if (!spot) return { sentence: SENTENCES[name] + where, range: null };
   const row = text.slice(0, spot.from).split("\n").length;

@@ -20,7 +20,7 @@ def pytest_addoption(parser):
     parser.addoption("--unproved", action="store_true", help="call programs that are built without any proof")
     parser.addoption("--write", action="store_true", help="write tests/explained.txt and tests/states.txt anew")
     parser.addoption("--rounds", type=int, default=5,
-                     help="how often tests/test_many_runs.py and tests/test_open_runs.py run each plan; 5")
+                     help="how often tests/test_many_runs.py runs each plan; tests/test_open_runs.py: twenty times; 5")
 
 
 def pytest_configure(config):

@@ -3,19 +3,19 @@ well.
 
 A site may do one to five tasks in an epoch, so most runs have several epochs. Tasks submit further tasks. In half of
 the runs the executor is closed behind all tasks, and in half it is stopped in the middle. The sites have a patience of
-1, 3 or 64. tests/open_runs.rt.in, built by 'rt try', says what a run has to leave: each value is the number of tasks at
-its two ends, each ticket has the answer of its task once, or is that of a task that was handed back, and all tasks that
-were submitted were done or handed back. After a change to open runs pytest --rounds 1000 does 10,000."""
+1, 3 or 64. The program of crates/dine_stress says what a run has to leave: each value is the number of tasks at its
+two ends, each ticket has the answer of its task once, or is that of a task that was handed back, and all tasks that
+were submitted were done or handed back. After a change to open runs pytest --rounds 500 does 100,000."""
 import collections
 import itertools
 import random
 import re
 
 import pytest
-from lib.crates import add_program, copy_crates
-from lib.files import text_of
+from lib.crates import program_of
+from lib.files import HOME
 from lib.graphs import graph_of
-from lib.unproved import answer_of_try
+from lib.process import answer_of
 
 # All runs are done by one process, for all tests.
 pytestmark = [pytest.mark.kit, pytest.mark.slow, pytest.mark.xdist_group("open runs")]
@@ -50,15 +50,16 @@ KINDS = list(itertools.product((1, 3, 64), ("close", "stop")))
 
 
 @pytest.fixture(scope="module")
-def wrong(tmp_path_factory, request):
-    """Does a run on each graph in each round, of one kind after the other. Returns by graph what was wrong."""
-    rounds, folder = request.config.getoption("rounds"), tmp_path_factory.mktemp("runs")
-    copy_crates("dine_run", folder)
-    crate = add_program("open_runs", "may_wait=9: dine_run anyhow", text_of("tests/open_runs.rt.in"), folder)
+def wrong(request):
+    """Does a run on each graph in each round, of one kind after the other. Returns by graph what was wrong. Such a run
+    takes a few milliseconds, so there are twenty rounds for one of other tests."""
+    rounds = 20 * request.config.getoption("rounds")
+    built = answer_of(["dine_stress"], f"{HOME}/tools/build", None)
+    assert built.status == 0, built.error
     runs = [(graph, *KINDS[(seed + first) % len(KINDS)], seed)
             for seed in range(rounds) for first, graph in enumerate(GRAPHS)]
     given = "".join(line_of(*it) for it in runs).encode()
-    answer = answer_of_try(["--seconds", str(300 + 8 * rounds)], crate, given)
+    answer = answer_of(["open-runs"], program_of("dine_stress"), 300 + rounds, input=given)
     found = re.findall(r"^(\d+) \d+ \d+ \d+$", answer.output, re.M)
     assert (answer.status, len(found)) == (0, len(runs)), answer.error
     faults = collections.defaultdict(list)

@@ -37,8 +37,8 @@ def test_list_that_is_old(planted):
     call = planted(BREACH, "/// A letter after Close", "/// A letter behind Close")
     those = ("bindings/c/dine.h", "bindings/rust/src/lib.rs", "bindings/python/dine/_core.py", "docs/FORMAT.md")
     said = "".join(f"words: {it} has an old list: run tools/words --write\n" for it in those)
-    assert call().output == f"{said}12 passed, 4 failed\n"
-    assert call("--write").output == call().output == "16 passed, 0 failed\n"
+    assert call().output == f"{said}16 passed, 4 failed\n"
+    assert call("--write").output == call().output == "20 passed, 0 failed\n"
 
 
 @pytest.mark.parametrize(("path", "old", "new", "said"), [

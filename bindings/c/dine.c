@@ -35,6 +35,7 @@ int64_t dine_raw_site_done(dine_handle *handle, uint32_t i, uint8_t *out, size_t
 int64_t dine_raw_site_shut(dine_handle *handle, uint32_t i, uint8_t *out, size_t out_len);
 int64_t dine_raw_site_break(dine_handle *handle, uint32_t i, uint8_t *out, size_t out_len);
 int64_t dine_raw_site_act(dine_handle *handle, const dine_event *event, uint8_t *out, size_t out_len);
+int64_t dine_raw_site_turn(dine_handle *handle, dine_event *event, uint8_t *out, size_t out_len);
 int64_t dine_raw_site_take(dine_handle *handle, const uint8_t *letter, size_t letter_len);
 int64_t dine_raw_site_begin(dine_handle *handle);
 int64_t dine_raw_site_end(dine_handle *handle, bool failed);
@@ -311,6 +312,19 @@ int64_t dine_site_act(dine_handle *handle, const dine_event *event, uint8_t *out
         out = (void *)&nothing;
     }
     return dine_raw_site_act(handle, event, out, out_len);
+}
+
+int64_t dine_site_turn(dine_handle *handle, dine_event *event, uint8_t *out, size_t out_len) {
+    if (!handle)
+        return DINE_NULL;
+    if (!event)
+        return DINE_NULL;
+    if (!out) {
+        if (out_len)
+            return DINE_NULL;
+        out = (void *)&nothing;
+    }
+    return dine_raw_site_turn(handle, event, out, out_len);
 }
 
 int64_t dine_site_take(dine_handle *handle, const uint8_t *letter, size_t letter_len) {

@@ -11,8 +11,9 @@
  * ANSWERS. A number from 0 on is an answer. A number below 0 says why there is none, and then nothing has changed, and
  * nothing was written for you. A null pointer, a closed handle, a handle of another kind, a number out of range and
  * bytes that are no letter are such answers. Else a call for a step does it if the rules allow it now, and refuses if
- * they do not. It returns DINE_OK if it did the step, or the number of the letter's bytes if the step puts one. Two
- * things more may stop it: the memory for a letter is too small, or an allocation failed, of a Fork that may be taken.
+ * they do not. It returns DINE_OK if it did the step, or the number of the letter's bytes if the step puts one, or the
+ * place if the step takes one. Two things more may stop it: the memory for a letter is too small, or an allocation
+ * failed, of a Fork that may be taken.
  *
  * WHAT YOU PROMISE, since nothing can check it:
  *   - a handle is set to zero before its first use, and after that only these calls write into it; no copy of an open
@@ -66,6 +67,8 @@ enum {
     DINE_LETTER_UNLAWFUL = -13, /* the other end cannot have done that with the fork */
     DINE_LETTER_EDGE = -14,     /* the letter is of an edge that the site does not have */
     DINE_OTHER_RUN = -15,       /* the letter is of another run */
+    DINE_WAITS = -16,           /* a turn: the site can do nothing before it takes a letter */
+    DINE_FINISHED = -17,        /* a turn: the site has done all, and put and taken all letters */
     /* The rules do not allow the letter now. Breach n of docs/FORMAT.md is DINE_BREACH - n: */
     DINE_BREACH = -20,
     /* words breaches, by tools/words */
@@ -128,13 +131,8 @@ enum {
     DINE_CAUSE_UNKNOWN_POLICY = -120,
     /* end */
 };
-/* No letter has more bytes. The first eight are the number of its run, the least byte first; one for its kind and four
- * for its edge follow. */
+/* No letter has more bytes. */
 enum { DINE_LETTER_MAX = 29 };
-/* The edge that a letter names. */
-static inline uint32_t dine_letter_edge(const uint8_t *letter) {
-    return letter[9] | (uint32_t)letter[10] << 8 | (uint32_t)letter[11] << 16 | (uint32_t)letter[12] << 24;
-}
 
 /* The limits of a plan. */
 enum {
@@ -147,7 +145,7 @@ enum {
     DINE_MAX_TURNS = 1000000,
     /* The greatest number of bytes of a name. */
     DINE_MAX_NAME = 32,
-    /* The greatest number of jobs of a site, and so of the meals that are due to an end of an edge. */
+    /* The greatest number of jobs of a site. */
     DINE_MAX_JOBS = 1000,
     /* The greatest amount of an act, and the greatest value of an edge before the first meal. */
     DINE_MAX_NUMBER = 1000000,
@@ -181,8 +179,8 @@ typedef struct dine_ends { uint32_t lower, higher; } dine_ends;
 typedef struct dine_period { uint32_t site, first, count; } dine_period;
 /* phase: 0 thinking, 1 hungry, 2 eating */
 typedef struct dine_site_now { uint32_t phase, ate, degree, finished; } dine_site_now;
-/* is_dirty: the fork is here, and it is in the meal or was eaten with since it came */
-typedef struct dine_place { uint32_t edge, neighbour, has_fork, has_token, is_dirty; } dine_place;
+/* is_dirty: the fork is here, and it is in the meal or was eaten with since it came. is_closed: Close was taken */
+typedef struct dine_place { uint32_t edge, neighbour, has_fork, has_token, is_dirty, is_closed; } dine_place;
 
 int64_t dine_close(dine_handle *handle);
 
@@ -244,7 +242,23 @@ int64_t dine_world_fork(dine_handle *world, uint32_t edge, uint32_t *out, size_t
 int64_t dine_world_value(dine_handle *world, uint32_t edge);
 
 /* One site, whose letters are bytes that you carry to the neighbour, each once and in order. A call that puts a letter
- * returns the number of its bytes. dine_site_open opens a site of the run 0. */
+ * returns the number of its bytes. dine_site_open opens a site of the run 0. This is a whole site, if receive, work and
+ * send are yours:
+ *
+ *     dine_event event;
+ *     uint8_t letter[DINE_LETTER_MAX];
+ *     int64_t len;
+ *     while ((len = dine_site_turn(&site, &event, letter, sizeof letter)) != DINE_FINISHED) {
+ *         if (len == DINE_WAITS) {
+ *             dine_site_take(&site, letter, receive(letter));
+ *         } else if (event.kind == DINE_BEGIN) {
+ *             work();
+ *             dine_site_end(&site, false);
+ *         } else if (len > 0) {
+ *             send(event.place, letter, len);
+ *         }
+ *     }
+ */
 int64_t dine_site_open(dine_handle *plan, uint32_t number, dine_handle *site);
 int64_t dine_site_open_in(dine_handle *plan, uint32_t number, uint64_t run, dine_handle *site);
 /* A number for a run of the plan with this text. `random` is drawn once for each run, and all processes of the run are
@@ -260,6 +274,7 @@ static inline uint64_t dine_run_number(const uint8_t *text, size_t text_len, uin
 }
 int64_t dine_site_state(dine_handle *site, dine_site_now *out);
 int64_t dine_site_place(dine_handle *site, uint32_t i, dine_place *out);
+/* Writes the event that a turn would do, and returns 1; or 0 if there is none. In a meal it is the End. */
 int64_t dine_site_next(dine_handle *site, dine_event *out);
 int64_t dine_site_hungry(dine_handle *site);
 int64_t dine_site_quit(dine_handle *site);
@@ -272,6 +287,11 @@ int64_t dine_site_break(dine_handle *site, uint32_t i, uint8_t *out, size_t out_
 /* Does an event of this site as the call of its kind does. Returns the number of bytes of the letter that it puts, or
  * 0. An End is that of a job that went well. A Take is no such event: dine_site_take takes a letter. */
 int64_t dine_site_act(dine_handle *site, const dine_event *event, uint8_t *out, size_t out_len);
+/* Does the first event that the site may do by itself, and writes it. Returns the number of bytes of the letter that it
+ * puts, or 0. After DINE_BEGIN do the job, and call dine_site_end. If there is no event: DINE_WAITS or DINE_FINISHED;
+ * during a meal: DINE_EATING. Else it refuses only if `out` has too few bytes for a letter, with DINE_SMALL. */
+int64_t dine_site_turn(dine_handle *site, dine_event *event, uint8_t *out, size_t out_len);
+/* Returns the place at which the letter arrived. */
 int64_t dine_site_take(dine_handle *site, const uint8_t *letter, size_t letter_len);
 int64_t dine_site_begin(dine_handle *site);
 int64_t dine_site_end(dine_handle *site, bool failed);

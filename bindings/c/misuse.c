@@ -86,6 +86,9 @@ static void nulls(dine_handle *world, dine_handle *site) {
     WANT(dine_site_give(site, 0, NULL, 32), DINE_NULL);
     WANT(dine_site_give(NULL, 0, bytes, 32), DINE_NULL);
     WANT(dine_site_state(site, NULL), DINE_NULL);
+    WANT(dine_site_turn(NULL, &event, bytes, 32), DINE_NULL);
+    WANT(dine_site_turn(site, NULL, bytes, 32), DINE_NULL);
+    WANT(dine_site_turn(site, &event, NULL, 32), DINE_NULL);
 }
 
 static void handles(void) {

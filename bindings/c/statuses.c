@@ -89,6 +89,7 @@ static void write_nothing(dine_handle *handle, int64_t of_plan, int64_t of_world
     REFUSES(dine_site_shut(handle, 0, out, BYTES), of_site);
     REFUSES(dine_site_break(handle, 0, out, BYTES), of_site);
     REFUSES(dine_site_act(handle, &(dine_event){0, DINE_GIVE, 0}, out, BYTES), of_site);
+    REFUSES(dine_site_turn(handle, (dine_event *)(void *)(out + 32), out, 32), of_site);
 }
 
 static void handles(void) {
@@ -251,7 +252,6 @@ static void a_late_letter(uint64_t older, uint64_t run) {
     WANT(dine_site_give(&a, 0, late, BYTES), FORK);
     for (int at = 0; at < 8; at++)
         WANT(late[at], older >> (8 * at) & 0xff);
-    WANT(dine_letter_edge(late), 0);
     WANT(dine_close(&a), DINE_OK);
     WANT(dine_close(&b), DINE_OK);
     WANT(dine_site_open_in(&plan, 0, run, &a), DINE_OK);
@@ -335,6 +335,48 @@ static void by_events(void) {
     close_both(&it);
 }
 
+/* A turn of the site, which refuses for this reason, and writes neither an event nor a letter. */
+static void no_turn(dine_handle *site, size_t bytes, int64_t status) {
+    REFUSES(dine_site_turn(site, (dine_event *)(void *)(out + 32), out, bytes), status);
+}
+
+/* Both sites by turns, until both have finished. A turn does what dine_site_next names. */
+static void by_turns(void) {
+    pair it = opened();
+    dine_handle *sites[2] = {&it.a, &it.b};
+    dine_event next, event;
+    int meals = 0, finished = 0;
+    WANT(dine_site_hungry(&it.b), DINE_OK);
+    no_turn(&it.b, FORK - 1, DINE_SMALL); /* it is to ask for the fork */
+    CARRIED(dine_site_turn(&it.b, &event, letter, BYTES), &it.a, DINE_OK);
+    WANT(event.site == 1 && event.kind == DINE_ASK && event.place == 0, 1);
+    no_turn(&it.b, BYTES, DINE_WAITS);
+    for (int turn = 0; finished < 2 && turn < 20; turn++) {
+        dine_handle *me = sites[turn % 2], *other = sites[(turn + 1) % 2];
+        int64_t length;
+        for (;;) {
+            int64_t is_next = dine_site_next(me, &next);
+            length = dine_site_turn(me, &event, letter, BYTES);
+            WANT(is_next, length >= 0);
+            WANT(is_next && memcmp(&next, &event, sizeof event), 0);
+            if (length < 0)
+                break;
+            if (event.kind == DINE_BEGIN) {
+                no_turn(me, BYTES, DINE_EATING);
+                WANT(dine_site_end(me, false), DINE_OK);
+                meals++;
+            } else if (length > 0) {
+                WANT(dine_site_take(other, letter, (size_t)length), DINE_OK);
+            }
+        }
+        finished = length == DINE_FINISHED ? finished + 1 : 0;
+        no_turn(me, 0, finished ? DINE_FINISHED : DINE_WAITS);
+    }
+    WANT(meals, 3);
+    WANT(finished, 2);
+    close_both(&it);
+}
+
 int main(void) {
     WANT(dine_plan_open((const uint8_t *)PLAN, strlen(PLAN), &plan), DINE_OK);
     handles();
@@ -343,6 +385,7 @@ int main(void) {
     breaches();
     runs();
     by_events();
+    by_turns();
     WANT(dine_close(&plan), DINE_OK);
     printf("%d wrong\n", wrong);
     return wrong != 0;

@@ -37,7 +37,7 @@ typedef struct numbers {
 
 static int rank, ranks;
 static dine_handle plan, sites[SITES_MAX];
-static uint32_t count;
+static uint32_t count, unfinished; /* all sites, and those of this rank that have not finished */
 /* For each site of this rank its events: the kind and the place of each. */
 static numbers journals[SITES_MAX];
 static parcel *here, **last = &here, *sending;
@@ -104,42 +104,28 @@ static void send_note(note note) {
     sending = it;
 }
 
-/* Does an event that is none of a meal, and sends its letter. */
-static void act(uint32_t n, dine_event event) {
-    dine_handle *site = &sites[n];
-    dine_place place = {0, 0, 0, 0, 0};
-    note it = {0, 0, {0}};
-    int64_t len = 0;
-    switch (event.kind) {
-    case DINE_GIVE: len = dine_site_give(site, event.place, it.bytes, sizeof it.bytes); break;
-    case DINE_ASK: len = dine_site_ask(site, event.place, it.bytes, sizeof it.bytes); break;
-    case DINE_DONE: len = dine_site_done(site, event.place, it.bytes, sizeof it.bytes); break;
-    case DINE_CLOSE: len = dine_site_shut(site, event.place, it.bytes, sizeof it.bytes); break;
-    case DINE_HUNGRY: len = dine_site_hungry(site); break;
-    case DINE_QUIT: len = dine_site_quit(site); break;
-    default: fail("an event of this kind is not expected", event.kind);
-    }
-    it.len = (uint32_t)must("an event", len);
-    if (it.len == 0)
-        return;
-    must("a place", dine_site_place(site, event.place, &place));
-    it.to = place.neighbour;
-    send_note(it);
-}
-
 /* Does all that site n may do without a letter. */
 static void go(uint32_t n) {
-    dine_event event;
-    while (must("the next event", dine_site_next(&sites[n], &event)) == 1) {
-        write_event(n, event.kind, event.place);
-        if (event.kind != DINE_BEGIN) {
-            act(n, event);
-            continue;
+    dine_event did;
+    dine_place place = {0, 0, 0, 0, 0, 0};
+    note it = {0, 0, {0}};
+    int64_t len;
+    while ((len = dine_site_turn(&sites[n], &did, it.bytes, sizeof it.bytes)) >= 0) {
+        write_event(n, did.kind, did.place);
+        if (did.kind == DINE_BEGIN) {
+            must("the end of a meal", dine_site_end(&sites[n], false)); /* before this call the job is done */
+            write_event(n, DINE_END, 0);
+        } else if (len > 0) {
+            must("a place", dine_site_place(&sites[n], did.place, &place));
+            it.to = place.neighbour;
+            it.len = (uint32_t)len;
+            send_note(it);
         }
-        must("the begin of a meal", dine_site_begin(&sites[n]));
-        must("the end of a meal", dine_site_end(&sites[n], false)); /* the job is done between these two calls */
-        write_event(n, DINE_END, 0);
     }
+    if (len == DINE_FINISHED)
+        unfinished--;
+    else if (len != DINE_WAITS)
+        fail("a turn", len);
 }
 
 /* Waits for a letter, and gives it to its site. */
@@ -155,26 +141,10 @@ static void take(void) {
     } else {
         MPI_Recv(&it, sizeof it, MPI_BYTE, MPI_ANY_SOURCE, 0, MPI_COMM_WORLD, MPI_STATUS_IGNORE);
     }
-    must("a letter", dine_site_take(&sites[it.to], it.bytes, it.len));
+    write_event(it.to, DINE_TAKE, (uint32_t)must("a letter", dine_site_take(&sites[it.to], it.bytes, it.len)));
     if (++letters == dies_at)
         raise(SIGKILL);
-    uint32_t edge = dine_letter_edge(it.bytes);
-    dine_place place = {0, 0, 0, 0, 0};
-    uint32_t i = 0;
-    while (must("a place", dine_site_place(&sites[it.to], i, &place)) == DINE_OK && place.edge != edge)
-        i++;
-    write_event(it.to, DINE_TAKE, i);
     go(it.to);
-}
-
-static bool all_finished(void) {
-    for (uint32_t n = rank; n < count; n += ranks) {
-        dine_site_now now = {0, 0, 0, 0};
-        must("a state", dine_site_state(&sites[n], &now));
-        if (!now.finished)
-            return false;
-    }
-    return true;
 }
 
 /* Writes for each site of this rank its journal, and the logs of the forks that it has. */
@@ -187,7 +157,7 @@ static numbers record(void) {
         dine_site_now now = {0, 0, 0, 0};
         must("a state", dine_site_state(&sites[n], &now));
         for (uint32_t i = 0; i < now.degree; i++) {
-            dine_place place = {0, 0, 0, 0, 0};
+            dine_place place = {0, 0, 0, 0, 0, 0};
             must("a place", dine_site_place(&sites[n], i, &place));
             uint32_t log[3 * 4096], len = 0;
             if (place.has_fork)
@@ -303,13 +273,13 @@ int main(int argc, char **argv) {
     size_t len = file ? fread(text, 1, TEXT_MAX, file) : grid(text);
     must("the text is no plan", dine_plan_open((const uint8_t *)text, len, &plan));
     count = (uint32_t)must("the sites", dine_plan_sites(&plan));
-    for (uint32_t n = rank; n < count; n += ranks)
+    for (uint32_t n = rank; n < count; n += ranks, unfinished++)
         must("a site", dine_site_open(&plan, n, &sites[n]));
     MPI_Barrier(MPI_COMM_WORLD);
     double began = MPI_Wtime();
     for (uint32_t n = rank; n < count; n += ranks)
         go(n);
-    while (!all_finished())
+    while (unfinished > 0)
         take();
     double seconds = MPI_Wtime() - began;
     while (sending)

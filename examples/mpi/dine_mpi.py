@@ -18,7 +18,7 @@ import time
 import traceback
 from collections import deque
 
-from dine import Event, Kind, Plan, Site, World, edge_of
+from dine import Event, Kind, Plan, Site, World
 from mpi4py import MPI
 
 COMM = MPI.COMM_WORLD
@@ -54,14 +54,13 @@ class Rank:
     def go(self, n: int) -> None:
         """Does all that site n may do without a letter."""
         site = self.sites[n]
-        while (event := site.next()) is not None:
-            self.note(n, event.kind, event.place)
-            if event.kind is Kind.BEGIN:
-                site.begin()
-                site.end()  # the job is done between these two calls
+        while (turn := site.turn()).event is not None:
+            self.journals[n].append(turn.event)
+            if turn.event.kind is Kind.BEGIN:
+                site.end()  # before this call the job is done
                 self.note(n, Kind.END)
-            elif letter := site.act(event):
-                self.send(self.places[n][event.place].neighbour, letter)
+            elif turn.letter:
+                self.send(self.places[n][turn.event.place].neighbour, turn.letter)
 
     def send(self, to: int, letter: bytes) -> None:
         """Sends a letter to a site. It waits for nothing, so no two ranks wait for each other."""
@@ -74,9 +73,7 @@ class Rank:
     def take(self) -> None:
         """Waits for a letter, and gives it to its site."""
         to, letter = self.here.popleft() if self.here else COMM.recv()
-        self.sites[to].take(letter)
-        edge = edge_of(letter)
-        self.note(to, Kind.TAKE, next(i for i, place in enumerate(self.places[to]) if place.edge == edge))
+        self.note(to, Kind.TAKE, self.sites[to].take(letter))
         self.letters += 1
         if self.letters == DIES_AT:
             os.kill(os.getpid(), signal.SIGKILL)

@@ -1,10 +1,10 @@
 """Sites as processes that may be killed at any time: python3 restart.py [KILLS] [FOLDER]
 
-Before a site does an event or takes a letter, it writes that to its *journal*, a file. After that it appends the letter
-that it puts, if any, to the file of the *link*. What a site does is determined by its journal. So if its process is
-killed, a new one does again what the journal has, appends the letters that are missing in the links, and goes on. If a
-meal began and has no end in the journal, its job is done again. The folder keeps the number of the run, which each new
-process takes: so all are of one run, and no letter of another is taken.
+A site writes each event to its *journal*, a file. After that it appends the letter that it puts, if any, to the file of
+the *link*. What a site does is determined by its journal, and nobody sees an event that is not written yet. So if its
+process is killed, a new one does again what the journal has, appends the letters that are missing in the links, and
+goes on. If a meal began and has no end in the journal, its job is done again. The folder keeps the number of the run,
+which each new process takes: so all are of one run, and no letter of another is taken.
 
 Here a parent starts a process for each of five sites in a ring, and kills one of them again and again. In the end the
 world of the plan accepts one order of all journals. Each site is proved, and so is the world. Trusted is that a file
@@ -75,19 +75,22 @@ class Process:
         for n in range(self.journal.count()):
             self.do(*self.journal.read(n))
 
-    def do(self, kind: Kind, place: int, letter: bytes = b"") -> None:
-        """Does what a record of the journal says."""
+    def do(self, kind: Kind, place: int, letter: bytes) -> None:
+        """Does what a record of the journal says. Without a letter to take or a meal to end, that is the next event."""
         if kind is Kind.TAKE:
             self.site.take(letter)
             self.taken[place] += 1
-        elif kind is Kind.BEGIN:
-            self.site.begin()
         elif kind is Kind.END:
             self.site.end()
-        elif letter := self.site.act(Event(self.number, kind, place)):
-            self.put[place] += 1
-            if self.outward[place].count() < self.put[place]:
-                self.outward[place].append(kind, place, letter)
+        else:
+            self.send(*self.site.turn())
+
+    def send(self, event: Event, letter: bytes) -> None:
+        """Appends the letter of an event, if it put one, to its link, unless it is there."""
+        if letter:
+            link, self.put[event.place] = self.outward[event.place], self.put[event.place] + 1
+            if link.count() < self.put[event.place]:
+                link.append(event.kind, event.place, letter)
 
     def note(self, kind: Kind, place: int = 0, letter: bytes = b"") -> None:
         self.journal.append(kind, place, letter)
@@ -101,9 +104,11 @@ class Process:
         for place, link in enumerate(self.inward):
             if link.count() > self.taken[place]:
                 return self.note(Kind.TAKE, place, link.read(self.taken[place])[2])
-        if event := self.site.next():
-            return self.note(event.kind, event.place)
-        time.sleep(0.001)
+        event, letter = self.site.turn()
+        if event is None:
+            return time.sleep(0.001)
+        self.journal.append(event.kind, event.place, b"")
+        self.send(event, letter)
 
 
 def start(folder: Path, number: int) -> int:

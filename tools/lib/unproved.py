@@ -13,7 +13,9 @@ from lib.process import BOUND, Answer
 
 # The input while the program is caught: a plan whose one site is at work for a second or two.
 BUSY = 'version = 1\n[[site]]\nname = "a"\njobs = [' + '{ name = "x", turns = 1000000 }, ' * 30 + "]\n"
-RUN = {"dine_trace": ["--run"], "dine_bench": ["ring", "1"]}
+RUN = {"dine_trace": ["--run"], "dine_bench": ["ring", "1"], "dine_stress": []}
+# What a program reads before the plan.
+HEAD = {"dine_stress": "ring greedy\n"}
 
 
 def end_hint(rt):
@@ -60,7 +62,7 @@ def build_unproved(crate, to, given=BUSY):
     # What a build that was stopped has left there goes.
     shutil.rmtree(room, ignore_errors=True)
     room.mkdir(parents=True)
-    (room / "plan").write_text(given, "utf-8")
+    (room / "plan").write_text(HEAD.get(name, "") + given, "utf-8")
     words = [*BOUND, "rt", "try", name, "--", *RUN.get(name, ["run"])]
     # A second signal, from the terminal, would stop rt try in the middle of ending what it began: it gets a session of
     # its own.

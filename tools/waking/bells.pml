@@ -387,9 +387,10 @@ go_on:
   :: kind == BEGIN ->
 #if POLITE
      /* A polite site eats only if no letter that was put off matters and a check of its bell finds no ring, and it never
-        sleeps there. A patient one, which is in PATIENT too, checks or does not; so this stands for any patience.
+        sleeps there. A patient one, which is in PATIENT too, checks or does not; so this stands for any patience, and
+        for a greedy site that checks now and then.
         of running.rt: Running::begin, Running::check_bell, Running::take_where_rung, Running::take_recalled, recall_before_meal, is_checking,
-        skips_then
+        tally_then
         of bell.rt: Bell::check; of empty_checks.rt: EmptyChecks::next_or_add */
      if
      :: (POLITE & BIT(me)) == 0 || (PATIENT & BIT(me))

@@ -5,7 +5,7 @@
 //! and by `eat` of an open table with a patience of 0, 4 and 64. A time is that of all, threads included, for each meal; a
 //! ratio is of one round, and the middle one counts. The longest wait of any worker for a meal is the middle one too. Run
 //! it without other work.
-use dine::{Event, Kind, Plan, Site, Table, World};
+use dine::{Event, Kind, Plan, Site, Table, Turn, World};
 use std::hint::black_box;
 use std::sync::atomic::{AtomicU64, Ordering};
 use std::sync::Mutex;
@@ -179,16 +179,13 @@ fn exchange(plan: &Plan) -> f64 {
     let start = Instant::now();
     while !sites.iter().all(Site::is_finished) {
         for me in 0..2 {
-            while let Some(kind) = sites[me].next() {
+            while let Turn::Did(kind, letter) = sites[me].turn().expect("it may") {
+                let letter = letter.to_vec();
                 events += 1;
                 if kind == Kind::Begin {
-                    sites[me].begin().expect("it may begin");
                     sites[me].end(false).expect("it eats");
                     events += 1;
-                    continue;
-                }
-                let letter = sites[me].act(kind).expect("it may").to_vec();
-                if !letter.is_empty() {
+                } else if !letter.is_empty() {
                     sites[1 - me].take(&letter).expect("it was sent");
                     events += 1;
                 }

@@ -268,6 +268,16 @@ int64_t dine_raw_site_act(dine_handle *handle, const dine_event *event, uint8_t 
     return end(&it, (int64_t)Z_dine_ffiZ_dine_raw_site_act(&module, handle_at, event_at, out_at, out_len));
 }
 
+int64_t dine_raw_site_turn(dine_handle *handle, dine_event *event, uint8_t *out, size_t out_len) {
+    call it = begin();
+    u64 handle_at = lend_handle(&it, handle);
+    u64 event_at = lend(&it, event, sizeof *event, true);
+    u64 out_at = lend(&it, out, out_len * sizeof *out, true);
+    if (!it.fits)
+        return end(&it, DINE_MEMORY);
+    return end(&it, (int64_t)Z_dine_ffiZ_dine_raw_site_turn(&module, handle_at, event_at, out_at, out_len));
+}
+
 int64_t dine_raw_site_take(dine_handle *handle, const uint8_t *letter, size_t letter_len) {
     call it = begin();
     u64 handle_at = lend_handle(&it, handle);

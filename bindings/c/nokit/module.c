@@ -590,15 +590,15 @@ static void init_func_types(void) {
   func_types[7] = wasm_rt_register_func_type(2, 1, WASM_RT_I64, WASM_RT_I32, WASM_RT_I64);
   func_types[8] = wasm_rt_register_func_type(3, 0, WASM_RT_I64, WASM_RT_I64, WASM_RT_I32);
   func_types[9] = wasm_rt_register_func_type(1, 1, WASM_RT_I64, WASM_RT_I32);
-  func_types[10] = wasm_rt_register_func_type(3, 1, WASM_RT_I64, WASM_RT_I32, WASM_RT_I64, WASM_RT_I64);
-  func_types[11] = wasm_rt_register_func_type(2, 1, WASM_RT_I64, WASM_RT_I64, WASM_RT_I32);
-  func_types[12] = wasm_rt_register_func_type(3, 1, WASM_RT_I64, WASM_RT_I64, WASM_RT_I64, WASM_RT_I32);
-  func_types[13] = wasm_rt_register_func_type(3, 1, WASM_RT_I64, WASM_RT_I64, WASM_RT_I64, WASM_RT_I64);
-  func_types[14] = wasm_rt_register_func_type(3, 1, WASM_RT_I64, WASM_RT_I32, WASM_RT_I32, WASM_RT_I64);
-  func_types[15] = wasm_rt_register_func_type(5, 0, WASM_RT_I64, WASM_RT_I64, WASM_RT_I64, WASM_RT_I32, WASM_RT_I32);
-  func_types[16] = wasm_rt_register_func_type(2, 1, WASM_RT_I64, WASM_RT_I32, WASM_RT_I32);
-  func_types[17] = wasm_rt_register_func_type(4, 0, WASM_RT_I64, WASM_RT_I64, WASM_RT_I64, WASM_RT_I32);
-  func_types[18] = wasm_rt_register_func_type(4, 1, WASM_RT_I64, WASM_RT_I64, WASM_RT_I64, WASM_RT_I64, WASM_RT_I64);
+  func_types[10] = wasm_rt_register_func_type(2, 1, WASM_RT_I64, WASM_RT_I64, WASM_RT_I32);
+  func_types[11] = wasm_rt_register_func_type(3, 1, WASM_RT_I64, WASM_RT_I64, WASM_RT_I64, WASM_RT_I32);
+  func_types[12] = wasm_rt_register_func_type(4, 1, WASM_RT_I64, WASM_RT_I64, WASM_RT_I64, WASM_RT_I64, WASM_RT_I64);
+  func_types[13] = wasm_rt_register_func_type(3, 1, WASM_RT_I64, WASM_RT_I32, WASM_RT_I64, WASM_RT_I64);
+  func_types[14] = wasm_rt_register_func_type(3, 1, WASM_RT_I64, WASM_RT_I64, WASM_RT_I64, WASM_RT_I64);
+  func_types[15] = wasm_rt_register_func_type(3, 1, WASM_RT_I64, WASM_RT_I32, WASM_RT_I32, WASM_RT_I64);
+  func_types[16] = wasm_rt_register_func_type(5, 0, WASM_RT_I64, WASM_RT_I64, WASM_RT_I64, WASM_RT_I32, WASM_RT_I32);
+  func_types[17] = wasm_rt_register_func_type(2, 1, WASM_RT_I64, WASM_RT_I32, WASM_RT_I32);
+  func_types[18] = wasm_rt_register_func_type(4, 0, WASM_RT_I64, WASM_RT_I64, WASM_RT_I64, WASM_RT_I32);
   func_types[19] = wasm_rt_register_func_type(8, 0, WASM_RT_I64, WASM_RT_I64, WASM_RT_I64, WASM_RT_I64, WASM_RT_I64, WASM_RT_I64, WASM_RT_I64, WASM_RT_I64);
   func_types[20] = wasm_rt_register_func_type(6, 0, WASM_RT_I64, WASM_RT_I64, WASM_RT_I64, WASM_RT_I64, WASM_RT_I64, WASM_RT_I64);
   func_types[21] = wasm_rt_register_func_type(6, 1, WASM_RT_I64, WASM_RT_I32, WASM_RT_I64, WASM_RT_I64, WASM_RT_I64, WASM_RT_I64, WASM_RT_I64);
@@ -686,21 +686,24 @@ static void w2c_f70(Z_dine_ffi_instance_t*, u64, u64);
 static void w2c_f71(Z_dine_ffi_instance_t*, u64);
 static u32 w2c_f72(Z_dine_ffi_instance_t*, u64);
 static u32 w2c_f73(Z_dine_ffi_instance_t*, u64);
-static void w2c_f74(Z_dine_ffi_instance_t*, u64, u64);
-static u64 w2c_f75(Z_dine_ffi_instance_t*, u64, u32, u32, u64, u64);
-static void w2c_f76(Z_dine_ffi_instance_t*, u64, u64);
-static u64 w2c_f77(Z_dine_ffi_instance_t*, u64, u32, u64, u64);
-static void w2c_f78(Z_dine_ffi_instance_t*, u64, u64, u32);
+static u64 w2c_f74(Z_dine_ffi_instance_t*, u64, u64, u64, u64);
+static void w2c_f75(Z_dine_ffi_instance_t*, u64, u64);
+static u64 w2c_f76(Z_dine_ffi_instance_t*, u64, u32, u32, u64, u64);
+static void w2c_f77(Z_dine_ffi_instance_t*, u64, u64);
+static u64 w2c_f78(Z_dine_ffi_instance_t*, u64, u32, u64, u64);
 static void w2c_f79(Z_dine_ffi_instance_t*, u64, u64, u32);
-static void w2c_f80(Z_dine_ffi_instance_t*, u64, u64, u32, u64, u64);
-static void w2c_f81(Z_dine_ffi_instance_t*, u64);
-static u32 w2c_f82(Z_dine_ffi_instance_t*, u64, u32);
-static void w2c_f83(Z_dine_ffi_instance_t*, u64, u64, u32);
-static void w2c_f84(Z_dine_ffi_instance_t*, u64, u64);
-static void w2c_f85(Z_dine_ffi_instance_t*, u64, u32, u64);
-static void w2c_f86(Z_dine_ffi_instance_t*, u64, u64, u32);
-static void w2c_f87(Z_dine_ffi_instance_t*, u64, u64, u32, u64);
-static u32 w2c_f88(Z_dine_ffi_instance_t*, u64, u64, u64);
+static void w2c_f80(Z_dine_ffi_instance_t*, u64, u64, u32);
+static void w2c_f81(Z_dine_ffi_instance_t*, u64, u64, u32, u64, u64);
+static void w2c_f82(Z_dine_ffi_instance_t*, u64);
+static u32 w2c_f83(Z_dine_ffi_instance_t*, u64, u32);
+static void w2c_f84(Z_dine_ffi_instance_t*, u64, u64, u32);
+static void w2c_f85(Z_dine_ffi_instance_t*, u64, u64);
+static void w2c_f86(Z_dine_ffi_instance_t*, u64, u32, u64);
+static void w2c_f87(Z_dine_ffi_instance_t*, u64, u64, u32);
+static void w2c_f88(Z_dine_ffi_instance_t*, u64, u64, u32, u64);
+static u32 w2c_f89(Z_dine_ffi_instance_t*, u64, u64);
+static u32 w2c_f90(Z_dine_ffi_instance_t*, u64, u64, u64);
+static u32 w2c_f91(Z_dine_ffi_instance_t*, u64, u64, u64);
 static u64 w2c_dine_raw_plan_builder_open(Z_dine_ffi_instance_t*, u64);
 static u64 w2c_dine_raw_plan_open(Z_dine_ffi_instance_t*, u64, u64, u64);
 static u64 w2c_dine_raw_close(Z_dine_ffi_instance_t*, u64);
@@ -740,6 +743,7 @@ static u64 w2c_dine_raw_world_open(Z_dine_ffi_instance_t*, u64, u64);
 static u64 w2c_dine_raw_world_phase(Z_dine_ffi_instance_t*, u64, u32);
 static u64 w2c_dine_raw_world_replay(Z_dine_ffi_instance_t*, u64, u64, u64);
 static u64 w2c_dine_raw_world_step(Z_dine_ffi_instance_t*, u64, u64);
+static u64 w2c_dine_raw_site_turn(Z_dine_ffi_instance_t*, u64, u64, u64, u64);
 static u64 w2c_dine_raw_plan_builder_turns(Z_dine_ffi_instance_t*, u64, u32, u32, u32);
 static u64 w2c_dine_raw_plan_builder_value(Z_dine_ffi_instance_t*, u64, u32, u32);
 static u64 w2c_dine_raw_site_value(Z_dine_ffi_instance_t*, u64, u32);
@@ -748,15 +752,15 @@ static u64 w2c_dine_raw_site_take(Z_dine_ffi_instance_t*, u64, u64, u64);
 static u64 w2c_dine_raw_site_fork(Z_dine_ffi_instance_t*, u64, u32, u64, u64);
 static u64 w2c_dine_raw_world_fork(Z_dine_ffi_instance_t*, u64, u32, u64, u64);
 static u64 w2c_dine_raw_plan_refusal(Z_dine_ffi_instance_t*, u64, u64, u64, u64);
-static void w2c_f136(Z_dine_ffi_instance_t*, u64, u64);
-static u64 w2c_f137(Z_dine_ffi_instance_t*, u64);
-static void w2c_f138(Z_dine_ffi_instance_t*, u64);
+static void w2c_f140(Z_dine_ffi_instance_t*, u64, u64);
+static u64 w2c_f141(Z_dine_ffi_instance_t*, u64);
+static void w2c_f142(Z_dine_ffi_instance_t*, u64);
 static void w2c_leave(Z_dine_ffi_instance_t*, u64);
-static void w2c_f140(Z_dine_ffi_instance_t*, u64, u64, u64, u64);
+static void w2c_f144(Z_dine_ffi_instance_t*, u64, u64, u64, u64);
 static u64 w2c_room(Z_dine_ffi_instance_t*, u64);
 static void w2c_reset(Z_dine_ffi_instance_t*);
-static void w2c_f143(Z_dine_ffi_instance_t*, u64, u64, u64, u64);
-static void w2c_f144(Z_dine_ffi_instance_t*, u64, u64, u64, u32);
+static void w2c_f147(Z_dine_ffi_instance_t*, u64, u64, u64, u64);
+static void w2c_f148(Z_dine_ffi_instance_t*, u64, u64, u64, u32);
 
 static void init_globals(Z_dine_ffi_instance_t* instance) {
   instance->w2c_g0 = 1048576ull;
@@ -1791,48 +1795,37 @@ static const u8 data_segment_data_w2c_d25[] = {
   0x00, 0x00, 0x00, 0x00, 0x00, 0x00, 0x00, 0x6e, 0x61, 0x6d, 0x65, 0x74, 
   0x75, 0x72, 0x6e, 0x73, 0x66, 0x61, 0x69, 0x6c, 0x73, 0x00, 0x00, 0x61, 
   0x64, 0x64, 0x73, 0x65, 0x74, 0x74, 0x75, 0x72, 0x6e, 0x73, 0x66, 0x61, 
-  0x69, 0x6c, 0x73, 0x31, 0x20, 0x4e, 0x6f, 0x74, 0x54, 0x6f, 0x6d, 0x6c, 
-  0x32, 0x20, 0x56, 0x65, 0x72, 0x73, 0x69, 0x6f, 0x6e, 0x33, 0x20, 0x55, 
-  0x6e, 0x6b, 0x6e, 0x6f, 0x77, 0x6e, 0x4b, 0x65, 0x79, 0x34, 0x20, 0x4d, 
-  0x69, 0x73, 0x73, 0x69, 0x6e, 0x67, 0x4b, 0x65, 0x79, 0x35, 0x20, 0x57, 
-  0x72, 0x6f, 0x6e, 0x67, 0x4b, 0x69, 0x6e, 0x64, 0x36, 0x20, 0x42, 0x61, 
-  0x64, 0x4e, 0x61, 0x6d, 0x65, 0x20, 0x61, 0x74, 0x20, 0x73, 0x69, 0x74, 
-  0x65, 0x20, 0x37, 0x20, 0x53, 0x69, 0x74, 0x65, 0x54, 0x77, 0x69, 0x63, 
-  0x65, 0x20, 0x61, 0x74, 0x20, 0x73, 0x69, 0x74, 0x65, 0x20, 0x38, 0x20, 
-  0x4e, 0x6f, 0x53, 0x69, 0x74, 0x65, 0x39, 0x20, 0x54, 0x6f, 0x6f, 0x4d, 
-  0x61, 0x6e, 0x79, 0x53, 0x69, 0x74, 0x65, 0x73, 0x31, 0x30, 0x20, 0x54, 
-  0x6f, 0x6f, 0x4d, 0x61, 0x6e, 0x79, 0x4a, 0x6f, 0x62, 0x73, 0x20, 0x61, 
-  0x74, 0x20, 0x73, 0x69, 0x74, 0x65, 0x20, 0x31, 0x31, 0x20, 0x54, 0x75, 
-  0x72, 0x6e, 0x73, 0x54, 0x6f, 0x6f, 0x4c, 0x61, 0x72, 0x67, 0x65, 0x20, 
-  0x61, 0x74, 0x20, 0x73, 0x69, 0x74, 0x65, 0x20, 0x31, 0x32, 0x20, 0x55, 
-  0x6e, 0x6b, 0x6e, 0x6f, 0x77, 0x6e, 0x45, 0x6e, 0x64, 0x20, 0x61, 0x74, 
-  0x20, 0x65, 0x64, 0x67, 0x65, 0x20, 0x31, 0x33, 0x20, 0x4c, 0x6f, 0x6f, 
-  0x70, 0x20, 0x61, 0x74, 0x20, 0x65, 0x64, 0x67, 0x65, 0x20, 0x31, 0x34, 
-  0x20, 0x45, 0x64, 0x67, 0x65, 0x54, 0x77, 0x69, 0x63, 0x65, 0x20, 0x61, 
-  0x74, 0x20, 0x65, 0x64, 0x67, 0x65, 0x20, 0x31, 0x35, 0x20, 0x54, 0x6f, 
-  0x6f, 0x4d, 0x61, 0x6e, 0x79, 0x45, 0x64, 0x67, 0x65, 0x73, 0x31, 0x37, 
-  0x20, 0x54, 0x77, 0x6f, 0x41, 0x63, 0x74, 0x73, 0x20, 0x61, 0x74, 0x20, 
-  0x73, 0x69, 0x74, 0x65, 0x20, 0x31, 0x38, 0x20, 0x41, 0x63, 0x74, 0x54, 
-  0x6f, 0x6f, 0x4c, 0x61, 0x72, 0x67, 0x65, 0x20, 0x61, 0x74, 0x20, 0x73, 
-  0x69, 0x74, 0x65, 0x20, 0x31, 0x39, 0x20, 0x56, 0x61, 0x6c, 0x75, 0x65, 
-  0x54, 0x6f, 0x6f, 0x4c, 0x61, 0x72, 0x67, 0x65, 0x20, 0x61, 0x74, 0x20, 
-  0x65, 0x64, 0x67, 0x65, 0x20, 0x32, 0x30, 0x20, 0x55, 0x6e, 0x6b, 0x6e, 
-  0x6f, 0x77, 0x6e, 0x50, 0x6f, 0x6c, 0x69, 0x63, 0x79, 0x20, 0x61, 0x74, 
-  0x20, 0x73, 0x69, 0x74, 0x65, 0x20, 0x20, 0x20, 0x20, 0x20, 0x00, 0x00, 
-  0x00, 0x00, 0x00, 0x9b, 0xff, 0xff, 0xff, 0xff, 0xff, 0xff, 0xff, 0x9a, 
-  0xff, 0xff, 0xff, 0xff, 0xff, 0xff, 0xff, 0x99, 0xff, 0xff, 0xff, 0xff, 
-  0xff, 0xff, 0xff, 0x98, 0xff, 0xff, 0xff, 0xff, 0xff, 0xff, 0xff, 0x97, 
-  0xff, 0xff, 0xff, 0xff, 0xff, 0xff, 0xff, 0x96, 0xff, 0xff, 0xff, 0xff, 
-  0xff, 0xff, 0xff, 0x95, 0xff, 0xff, 0xff, 0xff, 0xff, 0xff, 0xff, 0x94, 
-  0xff, 0xff, 0xff, 0xff, 0xff, 0xff, 0xff, 0x93, 0xff, 0xff, 0xff, 0xff, 
-  0xff, 0xff, 0xff, 0x92, 0xff, 0xff, 0xff, 0xff, 0xff, 0xff, 0xff, 0x91, 
-  0xff, 0xff, 0xff, 0xff, 0xff, 0xff, 0xff, 0x90, 0xff, 0xff, 0xff, 0xff, 
-  0xff, 0xff, 0xff, 0x8f, 0xff, 0xff, 0xff, 0xff, 0xff, 0xff, 0xff, 0x8e, 
-  0xff, 0xff, 0xff, 0xff, 0xff, 0xff, 0xff, 0x8d, 0xff, 0xff, 0xff, 0xff, 
-  0xff, 0xff, 0xff, 0x8b, 0xff, 0xff, 0xff, 0xff, 0xff, 0xff, 0xff, 0x8a, 
-  0xff, 0xff, 0xff, 0xff, 0xff, 0xff, 0xff, 0x89, 0xff, 0xff, 0xff, 0xff, 
-  0xff, 0xff, 0xff, 0x88, 0xff, 0xff, 0xff, 0xff, 0xff, 0xff, 0xff, 0xfb, 
-  0xff, 0xff, 0xff, 0xff, 0xff, 0xff, 0xff, 
+  0x69, 0x6c, 0x73, 0x4e, 0x6f, 0x74, 0x54, 0x6f, 0x6d, 0x6c, 0x56, 0x65, 
+  0x72, 0x73, 0x69, 0x6f, 0x6e, 0x55, 0x6e, 0x6b, 0x6e, 0x6f, 0x77, 0x6e, 
+  0x4b, 0x65, 0x79, 0x4d, 0x69, 0x73, 0x73, 0x69, 0x6e, 0x67, 0x4b, 0x65, 
+  0x79, 0x57, 0x72, 0x6f, 0x6e, 0x67, 0x4b, 0x69, 0x6e, 0x64, 0x42, 0x61, 
+  0x64, 0x4e, 0x61, 0x6d, 0x65, 0x53, 0x69, 0x74, 0x65, 0x54, 0x77, 0x69, 
+  0x63, 0x65, 0x4e, 0x6f, 0x53, 0x69, 0x74, 0x65, 0x54, 0x6f, 0x6f, 0x4d, 
+  0x61, 0x6e, 0x79, 0x53, 0x69, 0x74, 0x65, 0x73, 0x54, 0x6f, 0x6f, 0x4d, 
+  0x61, 0x6e, 0x79, 0x4a, 0x6f, 0x62, 0x73, 0x54, 0x75, 0x72, 0x6e, 0x73, 
+  0x54, 0x6f, 0x6f, 0x4c, 0x61, 0x72, 0x67, 0x65, 0x55, 0x6e, 0x6b, 0x6e, 
+  0x6f, 0x77, 0x6e, 0x45, 0x6e, 0x64, 0x4c, 0x6f, 0x6f, 0x70, 0x45, 0x64, 
+  0x67, 0x65, 0x54, 0x77, 0x69, 0x63, 0x65, 0x54, 0x6f, 0x6f, 0x4d, 0x61, 
+  0x6e, 0x79, 0x45, 0x64, 0x67, 0x65, 0x73, 0x54, 0x77, 0x6f, 0x41, 0x63, 
+  0x74, 0x73, 0x41, 0x63, 0x74, 0x54, 0x6f, 0x6f, 0x4c, 0x61, 0x72, 0x67, 
+  0x65, 0x56, 0x61, 0x6c, 0x75, 0x65, 0x54, 0x6f, 0x6f, 0x4c, 0x61, 0x72, 
+  0x67, 0x65, 0x55, 0x6e, 0x6b, 0x6e, 0x6f, 0x77, 0x6e, 0x50, 0x6f, 0x6c, 
+  0x69, 0x63, 0x79, 0x20, 0x20, 0x20, 0x20, 0x20, 0x20, 0x61, 0x74, 0x20, 
+  0x73, 0x69, 0x74, 0x65, 0x20, 0x20, 0x61, 0x74, 0x20, 0x65, 0x64, 0x67, 
+  0x65, 0x20, 0x00, 0x00, 0x00, 0x00, 0x00, 0x9b, 0xff, 0xff, 0xff, 0xff, 
+  0xff, 0xff, 0xff, 0x9a, 0xff, 0xff, 0xff, 0xff, 0xff, 0xff, 0xff, 0x99, 
+  0xff, 0xff, 0xff, 0xff, 0xff, 0xff, 0xff, 0x98, 0xff, 0xff, 0xff, 0xff, 
+  0xff, 0xff, 0xff, 0x97, 0xff, 0xff, 0xff, 0xff, 0xff, 0xff, 0xff, 0x96, 
+  0xff, 0xff, 0xff, 0xff, 0xff, 0xff, 0xff, 0x95, 0xff, 0xff, 0xff, 0xff, 
+  0xff, 0xff, 0xff, 0x94, 0xff, 0xff, 0xff, 0xff, 0xff, 0xff, 0xff, 0x93, 
+  0xff, 0xff, 0xff, 0xff, 0xff, 0xff, 0xff, 0x92, 0xff, 0xff, 0xff, 0xff, 
+  0xff, 0xff, 0xff, 0x91, 0xff, 0xff, 0xff, 0xff, 0xff, 0xff, 0xff, 0x90, 
+  0xff, 0xff, 0xff, 0xff, 0xff, 0xff, 0xff, 0x8f, 0xff, 0xff, 0xff, 0xff, 
+  0xff, 0xff, 0xff, 0x8e, 0xff, 0xff, 0xff, 0xff, 0xff, 0xff, 0xff, 0x8d, 
+  0xff, 0xff, 0xff, 0xff, 0xff, 0xff, 0xff, 0x8b, 0xff, 0xff, 0xff, 0xff, 
+  0xff, 0xff, 0xff, 0x8a, 0xff, 0xff, 0xff, 0xff, 0xff, 0xff, 0xff, 0x89, 
+  0xff, 0xff, 0xff, 0xff, 0xff, 0xff, 0xff, 0x88, 0xff, 0xff, 0xff, 0xff, 
+  0xff, 0xff, 0xff, 0xfb, 0xff, 0xff, 0xff, 0xff, 0xff, 0xff, 0xff, 
 };
 
 static void init_memories(Z_dine_ffi_instance_t* instance) {
@@ -1862,7 +1855,7 @@ static void init_memories(Z_dine_ffi_instance_t* instance) {
   LOAD_DATA(instance->w2c_memory, 1054569u, data_segment_data_w2c_d22, 7);
   LOAD_DATA(instance->w2c_memory, 1054585u, data_segment_data_w2c_d23, 7);
   LOAD_DATA(instance->w2c_memory, 1054601u, data_segment_data_w2c_d24, 7);
-  LOAD_DATA(instance->w2c_memory, 1054617u, data_segment_data_w2c_d25, 5983);
+  LOAD_DATA(instance->w2c_memory, 1054617u, data_segment_data_w2c_d25, 5855);
 }
 
 static void init_data_instances(Z_dine_ffi_instance_t *instance) {
@@ -1968,7 +1961,7 @@ static u64 w2c_f0(Z_dine_ffi_instance_t* instance, u64 w2c_p0, u64 w2c_p1) {
   memory_copy(&instance->w2c_memory, &instance->w2c_memory, w2c_i0, w2c_i1, w2c_i2);
   w2c_j0 = w2c_l2;
   w2c_j1 = 280ull;
-  w2c_f136(instance, w2c_j0, w2c_j1);
+  w2c_f140(instance, w2c_j0, w2c_j1);
   w2c_j0 = w2c_l2;
   w2c_i0 = (u32)(w2c_j0);
   w2c_j0 = i64_load(&instance->w2c_memory, (u64)(w2c_i0));
@@ -5901,7 +5894,7 @@ static void w2c_f9(Z_dine_ffi_instance_t* instance, u64 w2c_p0, u64 w2c_p1, u64 
   w2c_j0 = i64_load(&instance->w2c_memory, (u64)(w2c_i0) + 168u);
   w2c_p2 = w2c_j0;
   w2c_j0 = instance->w2c_g0;
-  w2c_j1 = 1392ull;
+  w2c_j1 = 1328ull;
   w2c_j0 -= w2c_j1;
   w2c_l3 = w2c_j0;
   instance->w2c_g0 = w2c_j0;
@@ -5915,15 +5908,15 @@ static void w2c_f9(Z_dine_ffi_instance_t* instance, u64 w2c_p0, u64 w2c_p1, u64 
   w2c_j0 = w2c_l3;
   w2c_i0 = (u32)(w2c_j0);
   w2c_j1 = 0ull;
-  i64_store(&instance->w2c_memory, (u64)(w2c_i0) + 1072, w2c_j1);
+  i64_store(&instance->w2c_memory, (u64)(w2c_i0) + 1008, w2c_j1);
   w2c_j0 = w2c_l3;
   w2c_i0 = (u32)(w2c_j0);
   w2c_j1 = 0ull;
-  i64_store(&instance->w2c_memory, (u64)(w2c_i0) + 1080, w2c_j1);
+  i64_store(&instance->w2c_memory, (u64)(w2c_i0) + 1016, w2c_j1);
   w2c_j0 = w2c_l3;
   w2c_i0 = (u32)(w2c_j0);
   w2c_j1 = 0ull;
-  i64_store(&instance->w2c_memory, (u64)(w2c_i0) + 1088, w2c_j1);
+  i64_store(&instance->w2c_memory, (u64)(w2c_i0) + 1024, w2c_j1);
   w2c_j0 = w2c_l3;
   w2c_j1 = 304ull;
   w2c_j0 += w2c_j1;
@@ -5934,43 +5927,43 @@ static void w2c_f9(Z_dine_ffi_instance_t* instance, u64 w2c_p0, u64 w2c_p1, u64 
   w2c_j0 = w2c_l3;
   w2c_i0 = (u32)(w2c_j0);
   w2c_j1 = 0ull;
-  i64_store(&instance->w2c_memory, (u64)(w2c_i0) + 1320, w2c_j1);
+  i64_store(&instance->w2c_memory, (u64)(w2c_i0) + 1256, w2c_j1);
   w2c_j0 = w2c_l3;
   w2c_i0 = (u32)(w2c_j0);
   w2c_j1 = 0ull;
-  i64_store(&instance->w2c_memory, (u64)(w2c_i0) + 1328, w2c_j1);
+  i64_store(&instance->w2c_memory, (u64)(w2c_i0) + 1264, w2c_j1);
   w2c_j0 = w2c_l3;
   w2c_i0 = (u32)(w2c_j0);
   w2c_j1 = 0ull;
-  i64_store(&instance->w2c_memory, (u64)(w2c_i0) + 1336, w2c_j1);
+  i64_store(&instance->w2c_memory, (u64)(w2c_i0) + 1272, w2c_j1);
   w2c_j0 = w2c_l3;
   w2c_i0 = (u32)(w2c_j0);
   w2c_j1 = 0ull;
-  i64_store(&instance->w2c_memory, (u64)(w2c_i0) + 1344, w2c_j1);
+  i64_store(&instance->w2c_memory, (u64)(w2c_i0) + 1280, w2c_j1);
   w2c_j0 = w2c_l3;
   w2c_i0 = (u32)(w2c_j0);
   w2c_j1 = 0ull;
-  i64_store(&instance->w2c_memory, (u64)(w2c_i0) + 1152, w2c_j1);
+  i64_store(&instance->w2c_memory, (u64)(w2c_i0) + 1088, w2c_j1);
   w2c_j0 = w2c_l3;
   w2c_i0 = (u32)(w2c_j0);
   w2c_j1 = 0ull;
-  i64_store(&instance->w2c_memory, (u64)(w2c_i0) + 1160, w2c_j1);
+  i64_store(&instance->w2c_memory, (u64)(w2c_i0) + 1096, w2c_j1);
   w2c_j0 = w2c_l3;
   w2c_i0 = (u32)(w2c_j0);
   w2c_j1 = 0ull;
-  i64_store(&instance->w2c_memory, (u64)(w2c_i0) + 1168, w2c_j1);
+  i64_store(&instance->w2c_memory, (u64)(w2c_i0) + 1104, w2c_j1);
   w2c_j0 = w2c_l3;
   w2c_i0 = (u32)(w2c_j0);
   w2c_j1 = 0ull;
-  i64_store(&instance->w2c_memory, (u64)(w2c_i0) + 1112, w2c_j1);
+  i64_store(&instance->w2c_memory, (u64)(w2c_i0) + 1048, w2c_j1);
   w2c_j0 = w2c_l3;
   w2c_i0 = (u32)(w2c_j0);
   w2c_j1 = 0ull;
-  i64_store(&instance->w2c_memory, (u64)(w2c_i0) + 1120, w2c_j1);
+  i64_store(&instance->w2c_memory, (u64)(w2c_i0) + 1056, w2c_j1);
   w2c_j0 = w2c_l3;
   w2c_i0 = (u32)(w2c_j0);
   w2c_j1 = 0ull;
-  i64_store(&instance->w2c_memory, (u64)(w2c_i0) + 1128, w2c_j1);
+  i64_store(&instance->w2c_memory, (u64)(w2c_i0) + 1064, w2c_j1);
   w2c_j0 = w2c_p2;
   w2c_i0 = !(w2c_j0);
   if (w2c_i0) {goto w2c_B2;}
@@ -6138,25 +6131,25 @@ static void w2c_f9(Z_dine_ffi_instance_t* instance, u64 w2c_p0, u64 w2c_p1, u64 
   w2c_j0 = w2c_l3;
   w2c_i0 = (u32)(w2c_j0);
   w2c_j1 = 0ull;
-  i64_store(&instance->w2c_memory, (u64)(w2c_i0) + 1232, w2c_j1);
+  i64_store(&instance->w2c_memory, (u64)(w2c_i0) + 1168, w2c_j1);
   w2c_j0 = w2c_l3;
   w2c_i0 = (u32)(w2c_j0);
   w2c_j1 = 0ull;
-  i64_store(&instance->w2c_memory, (u64)(w2c_i0) + 1224, w2c_j1);
+  i64_store(&instance->w2c_memory, (u64)(w2c_i0) + 1160, w2c_j1);
   w2c_j0 = w2c_l3;
   w2c_i0 = (u32)(w2c_j0);
   w2c_j1 = 0ull;
-  i64_store(&instance->w2c_memory, (u64)(w2c_i0) + 1216, w2c_j1);
+  i64_store(&instance->w2c_memory, (u64)(w2c_i0) + 1152, w2c_j1);
   w2c_j0 = w2c_l3;
-  w2c_j1 = 960ull;
+  w2c_j1 = 896ull;
   w2c_j0 += w2c_j1;
   w2c_l12 = w2c_j0;
   w2c_j0 = w2c_l3;
-  w2c_j1 = 1384ull;
+  w2c_j1 = 1320ull;
   w2c_j0 += w2c_j1;
   w2c_l9 = w2c_j0;
   w2c_j0 = w2c_l3;
-  w2c_j1 = 694ull;
+  w2c_j1 = 670ull;
   w2c_j0 += w2c_j1;
   w2c_l25 = w2c_j0;
   w2c_j0 = 0ull;
@@ -6283,43 +6276,43 @@ static void w2c_f9(Z_dine_ffi_instance_t* instance, u64 w2c_p0, u64 w2c_p1, u64 
     w2c_i0 = (u32)(w2c_j0);
     w2c_j1 = w2c_l3;
     w2c_i1 = (u32)(w2c_j1);
-    w2c_j1 = i64_load8_u(&instance->w2c_memory, (u64)(w2c_i1) + 1216u);
-    i64_store(&instance->w2c_memory, (u64)(w2c_i0) + 1152, w2c_j1);
+    w2c_j1 = i64_load8_u(&instance->w2c_memory, (u64)(w2c_i1) + 1152u);
+    i64_store(&instance->w2c_memory, (u64)(w2c_i0) + 1088, w2c_j1);
     w2c_j0 = w2c_l3;
     w2c_i0 = (u32)(w2c_j0);
     w2c_j1 = w2c_l3;
     w2c_i1 = (u32)(w2c_j1);
-    w2c_j1 = i64_load(&instance->w2c_memory, (u64)(w2c_i1) + 1224u);
-    i64_store(&instance->w2c_memory, (u64)(w2c_i0) + 1160, w2c_j1);
+    w2c_j1 = i64_load(&instance->w2c_memory, (u64)(w2c_i1) + 1160u);
+    i64_store(&instance->w2c_memory, (u64)(w2c_i0) + 1096, w2c_j1);
     w2c_j0 = w2c_l3;
     w2c_i0 = (u32)(w2c_j0);
     w2c_j1 = w2c_l3;
     w2c_i1 = (u32)(w2c_j1);
-    w2c_j1 = i64_load(&instance->w2c_memory, (u64)(w2c_i1) + 1232u);
-    i64_store(&instance->w2c_memory, (u64)(w2c_i0) + 1168, w2c_j1);
+    w2c_j1 = i64_load(&instance->w2c_memory, (u64)(w2c_i1) + 1168u);
+    i64_store(&instance->w2c_memory, (u64)(w2c_i0) + 1104, w2c_j1);
     w2c_j0 = w2c_l3;
-    w2c_j1 = 1320ull;
+    w2c_j1 = 1256ull;
     w2c_j0 += w2c_j1;
     w2c_j1 = w2c_l3;
-    w2c_j2 = 1152ull;
+    w2c_j2 = 1088ull;
     w2c_j1 += w2c_j2;
     w2c_f11(instance, w2c_j0, w2c_j1);
     w2c_j0 = w2c_l3;
     w2c_i0 = (u32)(w2c_j0);
-    w2c_i0 = i32_load8_u(&instance->w2c_memory, (u64)(w2c_i0) + 1320u);
+    w2c_i0 = i32_load8_u(&instance->w2c_memory, (u64)(w2c_i0) + 1256u);
     w2c_i0 = !(w2c_i0);
     if (w2c_i0) {
       w2c_j0 = w2c_l3;
       w2c_i0 = (u32)(w2c_j0);
-      w2c_i0 = i32_load8_u(&instance->w2c_memory, (u64)(w2c_i0) + 1328u);
+      w2c_i0 = i32_load8_u(&instance->w2c_memory, (u64)(w2c_i0) + 1264u);
       w2c_l45 = w2c_i0;
       w2c_j0 = w2c_l3;
       w2c_i0 = (u32)(w2c_j0);
-      w2c_j0 = i64_load(&instance->w2c_memory, (u64)(w2c_i0) + 1336u);
+      w2c_j0 = i64_load(&instance->w2c_memory, (u64)(w2c_i0) + 1272u);
       w2c_l10 = w2c_j0;
       w2c_j0 = w2c_l3;
       w2c_i0 = (u32)(w2c_j0);
-      w2c_j0 = i64_load(&instance->w2c_memory, (u64)(w2c_i0) + 1344u);
+      w2c_j0 = i64_load(&instance->w2c_memory, (u64)(w2c_i0) + 1280u);
       w2c_l7 = w2c_j0;
       w2c_j0 = w2c_l5;
       w2c_i0 = !(w2c_j0);
@@ -6412,24 +6405,24 @@ static void w2c_f9(Z_dine_ffi_instance_t* instance, u64 w2c_p0, u64 w2c_p1, u64 
     w2c_j0 = w2c_l3;
     w2c_i0 = (u32)(w2c_j0);
     w2c_j1 = 0ull;
-    i64_store(&instance->w2c_memory, (u64)(w2c_i0) + 1296, w2c_j1);
+    i64_store(&instance->w2c_memory, (u64)(w2c_i0) + 1232, w2c_j1);
     w2c_j0 = w2c_l3;
     w2c_i0 = (u32)(w2c_j0);
     w2c_j1 = 0ull;
-    i64_store(&instance->w2c_memory, (u64)(w2c_i0) + 1288, w2c_j1);
+    i64_store(&instance->w2c_memory, (u64)(w2c_i0) + 1224, w2c_j1);
     w2c_j0 = w2c_l3;
     w2c_i0 = (u32)(w2c_j0);
     w2c_j1 = 0ull;
-    i64_store(&instance->w2c_memory, (u64)(w2c_i0) + 1280, w2c_j1);
+    i64_store(&instance->w2c_memory, (u64)(w2c_i0) + 1216, w2c_j1);
     w2c_j0 = w2c_l3;
-    w2c_j1 = 952ull;
+    w2c_j1 = 888ull;
     w2c_j0 += w2c_j1;
     w2c_i0 = (u32)(w2c_j0);
     w2c_i1 = 0u;
     w2c_i2 = 72u;
     memory_fill(&instance->w2c_memory, w2c_i0, w2c_i1, w2c_i2);
     w2c_j0 = w2c_l3;
-    w2c_j1 = 680ull;
+    w2c_j1 = 656ull;
     w2c_j0 += w2c_j1;
     w2c_i0 = (u32)(w2c_j0);
     w2c_i1 = 0u;
@@ -6500,7 +6493,7 @@ static void w2c_f9(Z_dine_ffi_instance_t* instance, u64 w2c_p0, u64 w2c_p1, u64 
       w2c_i0 = w2c_i0 != w2c_i1;
       if (w2c_i0) {goto w2c_B40;}
       w2c_j0 = w2c_l3;
-      w2c_j1 = 952ull;
+      w2c_j1 = 888ull;
       w2c_j0 += w2c_j1;
       w2c_j1 = w2c_l10;
       w2c_j2 = 2ull;
@@ -6511,23 +6504,23 @@ static void w2c_f9(Z_dine_ffi_instance_t* instance, u64 w2c_p0, u64 w2c_p1, u64 
       w2c_f12(instance, w2c_j0, w2c_j1, w2c_j2);
       w2c_j0 = w2c_l3;
       w2c_i0 = (u32)(w2c_j0);
-      w2c_j0 = i64_load(&instance->w2c_memory, (u64)(w2c_i0) + 976u);
+      w2c_j0 = i64_load(&instance->w2c_memory, (u64)(w2c_i0) + 912u);
       w2c_l16 = w2c_j0;
       w2c_j0 = w2c_l3;
       w2c_i0 = (u32)(w2c_j0);
-      w2c_j0 = i64_load(&instance->w2c_memory, (u64)(w2c_i0) + 968u);
+      w2c_j0 = i64_load(&instance->w2c_memory, (u64)(w2c_i0) + 904u);
       w2c_l4 = w2c_j0;
       w2c_j0 = w2c_l3;
       w2c_i0 = (u32)(w2c_j0);
-      w2c_j0 = i64_load8_u(&instance->w2c_memory, (u64)(w2c_i0) + 961u);
+      w2c_j0 = i64_load8_u(&instance->w2c_memory, (u64)(w2c_i0) + 897u);
       w2c_p1 = w2c_j0;
       w2c_j0 = w2c_l3;
       w2c_i0 = (u32)(w2c_j0);
-      w2c_j0 = i64_load8_u(&instance->w2c_memory, (u64)(w2c_i0) + 960u);
+      w2c_j0 = i64_load8_u(&instance->w2c_memory, (u64)(w2c_i0) + 896u);
       w2c_l7 = w2c_j0;
       w2c_j0 = w2c_l3;
       w2c_i0 = (u32)(w2c_j0);
-      w2c_i0 = i32_load8_u(&instance->w2c_memory, (u64)(w2c_i0) + 952u);
+      w2c_i0 = i32_load8_u(&instance->w2c_memory, (u64)(w2c_i0) + 888u);
       if (w2c_i0) {goto w2c_B38;}
       w2c_j0 = w2c_p1;
       w2c_j1 = 8ull;
@@ -6535,7 +6528,7 @@ static void w2c_f9(Z_dine_ffi_instance_t* instance, u64 w2c_p0, u64 w2c_p1, u64 
       w2c_j1 = w2c_l7;
       w2c_j0 |= w2c_j1;
       w2c_j1 = w2c_l3;
-      w2c_j2 = 966ull;
+      w2c_j2 = 902ull;
       w2c_j1 += w2c_j2;
       w2c_i1 = (u32)(w2c_j1);
       w2c_j1 = i64_load16_u(&instance->w2c_memory, (u64)(w2c_i1));
@@ -6543,7 +6536,7 @@ static void w2c_f9(Z_dine_ffi_instance_t* instance, u64 w2c_p0, u64 w2c_p1, u64 
       w2c_j1 <<= (w2c_j2 & 63);
       w2c_j2 = w2c_l3;
       w2c_i2 = (u32)(w2c_j2);
-      w2c_j2 = i64_load32_u(&instance->w2c_memory, (u64)(w2c_i2) + 962u);
+      w2c_j2 = i64_load32_u(&instance->w2c_memory, (u64)(w2c_i2) + 898u);
       w2c_j3 = 16ull;
       w2c_j2 <<= (w2c_j3 & 63);
       w2c_j1 |= w2c_j2;
@@ -6551,22 +6544,22 @@ static void w2c_f9(Z_dine_ffi_instance_t* instance, u64 w2c_p0, u64 w2c_p1, u64 
       w2c_l13 = w2c_j0;
       w2c_j0 = w2c_l3;
       w2c_i0 = (u32)(w2c_j0);
-      w2c_j0 = i64_load(&instance->w2c_memory, (u64)(w2c_i0) + 1000u);
+      w2c_j0 = i64_load(&instance->w2c_memory, (u64)(w2c_i0) + 936u);
       w2c_l15 = w2c_j0;
       w2c_j0 = w2c_l3;
       w2c_i0 = (u32)(w2c_j0);
-      w2c_j0 = i64_load(&instance->w2c_memory, (u64)(w2c_i0) + 984u);
+      w2c_j0 = i64_load(&instance->w2c_memory, (u64)(w2c_i0) + 920u);
       w2c_l20 = w2c_j0;
       w2c_j0 = w2c_l3;
       w2c_i0 = (u32)(w2c_j0);
-      w2c_j0 = i64_load(&instance->w2c_memory, (u64)(w2c_i0) + 1016u);
+      w2c_j0 = i64_load(&instance->w2c_memory, (u64)(w2c_i0) + 952u);
       w2c_l7 = w2c_j0;
       w2c_i0 = !(w2c_j0);
       w2c_i0 = !(w2c_i0);
       if (w2c_i0) {
         w2c_j0 = w2c_l3;
         w2c_i0 = (u32)(w2c_j0);
-        w2c_j0 = i64_load(&instance->w2c_memory, (u64)(w2c_i0) + 1008u);
+        w2c_j0 = i64_load(&instance->w2c_memory, (u64)(w2c_i0) + 944u);
         w2c_l8 = w2c_j0;
         w2c_i0 = (u32)(w2c_j0);
         w2c_i0 = i32_load8_u(&instance->w2c_memory, (u64)(w2c_i0));
@@ -6630,7 +6623,7 @@ static void w2c_f9(Z_dine_ffi_instance_t* instance, u64 w2c_p0, u64 w2c_p1, u64 
       w2c_B41:;
       w2c_j0 = w2c_l3;
       w2c_i0 = (u32)(w2c_j0);
-      w2c_j0 = i64_load(&instance->w2c_memory, (u64)(w2c_i0) + 992u);
+      w2c_j0 = i64_load(&instance->w2c_memory, (u64)(w2c_i0) + 928u);
       w2c_l19 = w2c_j0;
       w2c_j0 = w2c_l7;
       w2c_j1 = 1ull;
@@ -6649,7 +6642,7 @@ static void w2c_f9(Z_dine_ffi_instance_t* instance, u64 w2c_p0, u64 w2c_p1, u64 
       goto w2c_B33;
       w2c_B40:;
       w2c_j0 = w2c_l3;
-      w2c_j1 = 680ull;
+      w2c_j1 = 656ull;
       w2c_j0 += w2c_j1;
       w2c_j1 = w2c_l10;
       w2c_j2 = 1ull;
@@ -6662,23 +6655,23 @@ static void w2c_f9(Z_dine_ffi_instance_t* instance, u64 w2c_p0, u64 w2c_p1, u64 
       w2c_f12(instance, w2c_j0, w2c_j1, w2c_j2);
       w2c_j0 = w2c_l3;
       w2c_i0 = (u32)(w2c_j0);
-      w2c_j0 = i64_load(&instance->w2c_memory, (u64)(w2c_i0) + 704u);
+      w2c_j0 = i64_load(&instance->w2c_memory, (u64)(w2c_i0) + 680u);
       w2c_l16 = w2c_j0;
       w2c_j0 = w2c_l3;
       w2c_i0 = (u32)(w2c_j0);
-      w2c_j0 = i64_load(&instance->w2c_memory, (u64)(w2c_i0) + 696u);
+      w2c_j0 = i64_load(&instance->w2c_memory, (u64)(w2c_i0) + 672u);
       w2c_l4 = w2c_j0;
       w2c_j0 = w2c_l3;
       w2c_i0 = (u32)(w2c_j0);
-      w2c_j0 = i64_load8_u(&instance->w2c_memory, (u64)(w2c_i0) + 689u);
+      w2c_j0 = i64_load8_u(&instance->w2c_memory, (u64)(w2c_i0) + 665u);
       w2c_p1 = w2c_j0;
       w2c_j0 = w2c_l3;
       w2c_i0 = (u32)(w2c_j0);
-      w2c_j0 = i64_load8_u(&instance->w2c_memory, (u64)(w2c_i0) + 688u);
+      w2c_j0 = i64_load8_u(&instance->w2c_memory, (u64)(w2c_i0) + 664u);
       w2c_l7 = w2c_j0;
       w2c_j0 = w2c_l3;
       w2c_i0 = (u32)(w2c_j0);
-      w2c_i0 = i32_load8_u(&instance->w2c_memory, (u64)(w2c_i0) + 680u);
+      w2c_i0 = i32_load8_u(&instance->w2c_memory, (u64)(w2c_i0) + 656u);
       w2c_i0 = !(w2c_i0);
       if (w2c_i0) {
         w2c_j0 = w2c_p1;
@@ -6693,7 +6686,7 @@ static void w2c_f9(Z_dine_ffi_instance_t* instance, u64 w2c_p0, u64 w2c_p1, u64 
         w2c_j1 <<= (w2c_j2 & 63);
         w2c_j2 = w2c_l3;
         w2c_i2 = (u32)(w2c_j2);
-        w2c_j2 = i64_load32_u(&instance->w2c_memory, (u64)(w2c_i2) + 690u);
+        w2c_j2 = i64_load32_u(&instance->w2c_memory, (u64)(w2c_i2) + 666u);
         w2c_j3 = 16ull;
         w2c_j2 <<= (w2c_j3 & 63);
         w2c_j1 |= w2c_j2;
@@ -6707,23 +6700,23 @@ static void w2c_f9(Z_dine_ffi_instance_t* instance, u64 w2c_p0, u64 w2c_p1, u64 
         w2c_l27 = w2c_j0;
         w2c_j0 = w2c_l3;
         w2c_i0 = (u32)(w2c_j0);
-        w2c_j0 = i64_load(&instance->w2c_memory, (u64)(w2c_i0) + 744u);
+        w2c_j0 = i64_load(&instance->w2c_memory, (u64)(w2c_i0) + 720u);
         w2c_p1 = w2c_j0;
         w2c_j0 = w2c_l3;
         w2c_i0 = (u32)(w2c_j0);
-        w2c_j0 = i64_load(&instance->w2c_memory, (u64)(w2c_i0) + 736u);
+        w2c_j0 = i64_load(&instance->w2c_memory, (u64)(w2c_i0) + 712u);
         w2c_l8 = w2c_j0;
         w2c_j0 = w2c_l3;
         w2c_i0 = (u32)(w2c_j0);
-        w2c_j0 = i64_load(&instance->w2c_memory, (u64)(w2c_i0) + 728u);
+        w2c_j0 = i64_load(&instance->w2c_memory, (u64)(w2c_i0) + 704u);
         w2c_l15 = w2c_j0;
         w2c_j0 = w2c_l3;
         w2c_i0 = (u32)(w2c_j0);
-        w2c_j0 = i64_load(&instance->w2c_memory, (u64)(w2c_i0) + 720u);
+        w2c_j0 = i64_load(&instance->w2c_memory, (u64)(w2c_i0) + 696u);
         w2c_l19 = w2c_j0;
         w2c_j0 = w2c_l3;
         w2c_i0 = (u32)(w2c_j0);
-        w2c_j0 = i64_load(&instance->w2c_memory, (u64)(w2c_i0) + 712u);
+        w2c_j0 = i64_load(&instance->w2c_memory, (u64)(w2c_i0) + 688u);
         w2c_l20 = w2c_j0;
         goto w2c_B33;
       }
@@ -6964,32 +6957,32 @@ static void w2c_f9(Z_dine_ffi_instance_t* instance, u64 w2c_p0, u64 w2c_p1, u64 
     w2c_j0 = w2c_l3;
     w2c_i0 = (u32)(w2c_j0);
     w2c_i1 = 0u;
-    i32_store8(&instance->w2c_memory, (u64)(w2c_i0) + 682, w2c_i1);
+    i32_store8(&instance->w2c_memory, (u64)(w2c_i0) + 658, w2c_i1);
     w2c_j0 = w2c_l3;
     w2c_i0 = (u32)(w2c_j0);
     w2c_i1 = 0u;
-    i32_store16(&instance->w2c_memory, (u64)(w2c_i0) + 680, w2c_i1);
+    i32_store16(&instance->w2c_memory, (u64)(w2c_i0) + 656, w2c_i1);
     w2c_j0 = w2c_l3;
     w2c_i0 = (u32)(w2c_j0);
     w2c_j1 = 0ull;
-    i64_store(&instance->w2c_memory, (u64)(w2c_i0) + 968, w2c_j1);
+    i64_store(&instance->w2c_memory, (u64)(w2c_i0) + 904, w2c_j1);
     w2c_j0 = w2c_l3;
     w2c_i0 = (u32)(w2c_j0);
     w2c_j1 = w2c_l8;
-    i64_store(&instance->w2c_memory, (u64)(w2c_i0) + 952, w2c_j1);
+    i64_store(&instance->w2c_memory, (u64)(w2c_i0) + 888, w2c_j1);
     w2c_j0 = w2c_l3;
     w2c_i0 = (u32)(w2c_j0);
     w2c_j1 = w2c_l3;
-    w2c_j2 = 680ull;
+    w2c_j2 = 656ull;
     w2c_j1 += w2c_j2;
-    i64_store(&instance->w2c_memory, (u64)(w2c_i0) + 976, w2c_j1);
+    i64_store(&instance->w2c_memory, (u64)(w2c_i0) + 912, w2c_j1);
     w2c_j0 = w2c_l3;
     w2c_i0 = (u32)(w2c_j0);
     w2c_j1 = w2c_p1;
-    i64_store(&instance->w2c_memory, (u64)(w2c_i0) + 960, w2c_j1);
+    i64_store(&instance->w2c_memory, (u64)(w2c_i0) + 896, w2c_j1);
     w2c_j0 = w2c_p1;
     w2c_j1 = w2c_l3;
-    w2c_j2 = 952ull;
+    w2c_j2 = 888ull;
     w2c_j1 += w2c_j2;
     w2c_j1 = w2c_f15(instance, w2c_j1);
     w2c_l10 = w2c_j1;
@@ -7097,17 +7090,17 @@ static void w2c_f9(Z_dine_ffi_instance_t* instance, u64 w2c_p0, u64 w2c_p1, u64 
     w2c_j0 = w2c_l3;
     w2c_i0 = (u32)(w2c_j0);
     w2c_j1 = w2c_l27;
-    i64_store(&instance->w2c_memory, (u64)(w2c_i0) + 1296, w2c_j1);
+    i64_store(&instance->w2c_memory, (u64)(w2c_i0) + 1232, w2c_j1);
     w2c_j0 = w2c_l3;
     w2c_i0 = (u32)(w2c_j0);
     w2c_j1 = w2c_l22;
-    i64_store(&instance->w2c_memory, (u64)(w2c_i0) + 1288, w2c_j1);
+    i64_store(&instance->w2c_memory, (u64)(w2c_i0) + 1224, w2c_j1);
     w2c_j0 = w2c_l3;
     w2c_i0 = (u32)(w2c_j0);
     w2c_j1 = w2c_l21;
-    i64_store(&instance->w2c_memory, (u64)(w2c_i0) + 1280, w2c_j1);
+    i64_store(&instance->w2c_memory, (u64)(w2c_i0) + 1216, w2c_j1);
     w2c_j0 = w2c_l3;
-    w2c_j1 = 1280ull;
+    w2c_j1 = 1216ull;
     w2c_j0 += w2c_j1;
     w2c_f16(instance, w2c_j0);
     goto w2c_B12;
@@ -7149,62 +7142,62 @@ static void w2c_f9(Z_dine_ffi_instance_t* instance, u64 w2c_p0, u64 w2c_p1, u64 
       w2c_j0 = w2c_l3;
       w2c_i0 = (u32)(w2c_j0);
       w2c_j1 = w2c_l15;
-      i64_store(&instance->w2c_memory, (u64)(w2c_i0) + 696, w2c_j1);
+      i64_store(&instance->w2c_memory, (u64)(w2c_i0) + 672, w2c_j1);
       w2c_j0 = w2c_l3;
       w2c_i0 = (u32)(w2c_j0);
       w2c_j1 = w2c_l19;
-      i64_store(&instance->w2c_memory, (u64)(w2c_i0) + 688, w2c_j1);
+      i64_store(&instance->w2c_memory, (u64)(w2c_i0) + 664, w2c_j1);
       w2c_j0 = w2c_l3;
       w2c_i0 = (u32)(w2c_j0);
       w2c_j1 = w2c_l20;
-      i64_store(&instance->w2c_memory, (u64)(w2c_i0) + 680, w2c_j1);
+      i64_store(&instance->w2c_memory, (u64)(w2c_i0) + 656, w2c_j1);
       w2c_j0 = w2c_l3;
       w2c_i0 = (u32)(w2c_j0);
       w2c_j1 = 0ull;
-      i64_store(&instance->w2c_memory, (u64)(w2c_i0) + 952, w2c_j1);
+      i64_store(&instance->w2c_memory, (u64)(w2c_i0) + 888, w2c_j1);
       w2c_j0 = w2c_l3;
       w2c_i0 = (u32)(w2c_j0);
       w2c_i1 = w2c_l44;
-      i32_store(&instance->w2c_memory, (u64)(w2c_i0) + 992, w2c_i1);
+      i32_store(&instance->w2c_memory, (u64)(w2c_i0) + 928, w2c_i1);
       w2c_j0 = w2c_l3;
       w2c_i0 = (u32)(w2c_j0);
       w2c_j1 = w2c_l27;
-      i64_store(&instance->w2c_memory, (u64)(w2c_i0) + 984, w2c_j1);
+      i64_store(&instance->w2c_memory, (u64)(w2c_i0) + 920, w2c_j1);
       w2c_j0 = w2c_l3;
       w2c_i0 = (u32)(w2c_j0);
       w2c_j1 = w2c_l22;
-      i64_store(&instance->w2c_memory, (u64)(w2c_i0) + 976, w2c_j1);
+      i64_store(&instance->w2c_memory, (u64)(w2c_i0) + 912, w2c_j1);
       w2c_j0 = w2c_l3;
       w2c_i0 = (u32)(w2c_j0);
       w2c_j1 = w2c_l21;
-      i64_store(&instance->w2c_memory, (u64)(w2c_i0) + 968, w2c_j1);
+      i64_store(&instance->w2c_memory, (u64)(w2c_i0) + 904, w2c_j1);
       w2c_j0 = w2c_l3;
       w2c_i0 = (u32)(w2c_j0);
       w2c_i1 = w2c_l45;
-      i32_store(&instance->w2c_memory, (u64)(w2c_i0) + 964, w2c_i1);
+      i32_store(&instance->w2c_memory, (u64)(w2c_i0) + 900, w2c_i1);
       w2c_j0 = w2c_l3;
       w2c_i0 = (u32)(w2c_j0);
       w2c_i1 = w2c_l42;
-      i32_store8(&instance->w2c_memory, (u64)(w2c_i0) + 961, w2c_i1);
+      i32_store8(&instance->w2c_memory, (u64)(w2c_i0) + 897, w2c_i1);
       w2c_j0 = w2c_l3;
       w2c_i0 = (u32)(w2c_j0);
       w2c_i1 = w2c_l43;
-      i32_store8(&instance->w2c_memory, (u64)(w2c_i0) + 960, w2c_i1);
+      i32_store8(&instance->w2c_memory, (u64)(w2c_i0) + 896, w2c_i1);
       w2c_j0 = w2c_l3;
       w2c_j1 = 176ull;
       w2c_j0 += w2c_j1;
       w2c_j1 = w2c_l3;
-      w2c_j2 = 1216ull;
+      w2c_j2 = 1152ull;
       w2c_j1 += w2c_j2;
       w2c_j2 = w2c_l9;
       w2c_j3 = w2c_l5;
       w2c_j4 = w2c_l13;
       w2c_j5 = w2c_l4;
       w2c_j6 = w2c_l3;
-      w2c_j7 = 680ull;
+      w2c_j7 = 656ull;
       w2c_j6 += w2c_j7;
       w2c_j7 = w2c_l3;
-      w2c_j8 = 952ull;
+      w2c_j8 = 888ull;
       w2c_j7 += w2c_j8;
       w2c_f18(instance, w2c_j0, w2c_j1, w2c_j2, w2c_j3, w2c_j4, w2c_j5, w2c_j6, w2c_j7);
       w2c_j0 = w2c_l3;
@@ -7285,22 +7278,22 @@ static void w2c_f9(Z_dine_ffi_instance_t* instance, u64 w2c_p0, u64 w2c_p1, u64 
     w2c_j0 = w2c_l3;
     w2c_i0 = (u32)(w2c_j0);
     w2c_j1 = w2c_l16;
-    i64_store(&instance->w2c_memory, (u64)(w2c_i0) + 696, w2c_j1);
+    i64_store(&instance->w2c_memory, (u64)(w2c_i0) + 672, w2c_j1);
     w2c_j0 = w2c_l3;
     w2c_i0 = (u32)(w2c_j0);
     w2c_j1 = w2c_l4;
-    i64_store(&instance->w2c_memory, (u64)(w2c_i0) + 688, w2c_j1);
+    i64_store(&instance->w2c_memory, (u64)(w2c_i0) + 664, w2c_j1);
     w2c_j0 = w2c_l3;
     w2c_i0 = (u32)(w2c_j0);
     w2c_j1 = w2c_l13;
-    i64_store(&instance->w2c_memory, (u64)(w2c_i0) + 680, w2c_j1);
+    i64_store(&instance->w2c_memory, (u64)(w2c_i0) + 656, w2c_j1);
     w2c_j0 = w2c_l19;
     w2c_j1 = w2c_l19;
     w2c_i1 = !(w2c_j1);
     w2c_l41 = w2c_i1;
     if (w2c_i1) {
       w2c_j1 = w2c_l3;
-      w2c_j2 = 1384ull;
+      w2c_j2 = 1320ull;
       w2c_j1 += w2c_j2;
     } else {
       w2c_j1 = w2c_l19;
@@ -7311,7 +7304,7 @@ static void w2c_f9(Z_dine_ffi_instance_t* instance, u64 w2c_p0, u64 w2c_p1, u64 
       w2c_j2 = 160ull;
       w2c_j1 += w2c_j2;
       w2c_j2 = w2c_l19;
-      w2c_f136(instance, w2c_j1, w2c_j2);
+      w2c_f140(instance, w2c_j1, w2c_j2);
       w2c_j1 = w2c_l3;
       w2c_i1 = (u32)(w2c_j1);
       w2c_j1 = i64_load(&instance->w2c_memory, (u64)(w2c_i1) + 160u);
@@ -7454,52 +7447,52 @@ static void w2c_f9(Z_dine_ffi_instance_t* instance, u64 w2c_p0, u64 w2c_p1, u64 
     w2c_j0 = w2c_l3;
     w2c_i0 = (u32)(w2c_j0);
     w2c_i1 = w2c_l44;
-    i32_store(&instance->w2c_memory, (u64)(w2c_i0) + 992, w2c_i1);
+    i32_store(&instance->w2c_memory, (u64)(w2c_i0) + 928, w2c_i1);
     w2c_j0 = w2c_l3;
     w2c_i0 = (u32)(w2c_j0);
     w2c_j1 = w2c_l27;
-    i64_store(&instance->w2c_memory, (u64)(w2c_i0) + 984, w2c_j1);
+    i64_store(&instance->w2c_memory, (u64)(w2c_i0) + 920, w2c_j1);
     w2c_j0 = w2c_l3;
     w2c_i0 = (u32)(w2c_j0);
     w2c_j1 = w2c_l22;
-    i64_store(&instance->w2c_memory, (u64)(w2c_i0) + 976, w2c_j1);
+    i64_store(&instance->w2c_memory, (u64)(w2c_i0) + 912, w2c_j1);
     w2c_j0 = w2c_l3;
     w2c_i0 = (u32)(w2c_j0);
     w2c_j1 = w2c_l21;
-    i64_store(&instance->w2c_memory, (u64)(w2c_i0) + 968, w2c_j1);
+    i64_store(&instance->w2c_memory, (u64)(w2c_i0) + 904, w2c_j1);
     w2c_j0 = w2c_l3;
     w2c_i0 = (u32)(w2c_j0);
     w2c_i1 = w2c_l45;
-    i32_store(&instance->w2c_memory, (u64)(w2c_i0) + 964, w2c_i1);
+    i32_store(&instance->w2c_memory, (u64)(w2c_i0) + 900, w2c_i1);
     w2c_j0 = w2c_l3;
     w2c_i0 = (u32)(w2c_j0);
     w2c_i1 = w2c_l42;
-    i32_store8(&instance->w2c_memory, (u64)(w2c_i0) + 961, w2c_i1);
+    i32_store8(&instance->w2c_memory, (u64)(w2c_i0) + 897, w2c_i1);
     w2c_j0 = w2c_l3;
     w2c_i0 = (u32)(w2c_j0);
     w2c_i1 = w2c_l43;
-    i32_store8(&instance->w2c_memory, (u64)(w2c_i0) + 960, w2c_i1);
+    i32_store8(&instance->w2c_memory, (u64)(w2c_i0) + 896, w2c_i1);
     w2c_j0 = w2c_l3;
     w2c_i0 = (u32)(w2c_j0);
     w2c_j1 = w2c_l24;
-    i64_store(&instance->w2c_memory, (u64)(w2c_i0) + 952, w2c_j1);
+    i64_store(&instance->w2c_memory, (u64)(w2c_i0) + 888, w2c_j1);
     w2c_j0 = w2c_l3;
     w2c_j1 = 152ull;
     w2c_j0 += w2c_j1;
     w2c_j1 = w2c_l3;
-    w2c_j2 = 1216ull;
+    w2c_j2 = 1152ull;
     w2c_j1 += w2c_j2;
     w2c_j2 = w2c_l13;
     w2c_j3 = w2c_l4;
     w2c_j4 = w2c_l3;
-    w2c_j5 = 1384ull;
+    w2c_j5 = 1320ull;
     w2c_j4 += w2c_j5;
     w2c_j5 = 0ull;
     w2c_j6 = w2c_l3;
     w2c_j7 = 584ull;
     w2c_j6 += w2c_j7;
     w2c_j7 = w2c_l3;
-    w2c_j8 = 952ull;
+    w2c_j8 = 888ull;
     w2c_j7 += w2c_j8;
     w2c_f18(instance, w2c_j0, w2c_j1, w2c_j2, w2c_j3, w2c_j4, w2c_j5, w2c_j6, w2c_j7);
     w2c_j0 = w2c_l3;
@@ -7563,22 +7556,22 @@ static void w2c_f9(Z_dine_ffi_instance_t* instance, u64 w2c_p0, u64 w2c_p1, u64 
     goto w2c_B72;
     w2c_B76:;
     w2c_j0 = w2c_l3;
-    w2c_j1 = 680ull;
+    w2c_j1 = 656ull;
     w2c_j0 += w2c_j1;
     w2c_i0 = w2c_f19(instance, w2c_j0);
     w2c_i0 = !(w2c_i0);
     if (w2c_i0) {goto w2c_B73;}
     w2c_j0 = w2c_l3;
     w2c_i0 = (u32)(w2c_j0);
-    w2c_j0 = i64_load(&instance->w2c_memory, (u64)(w2c_i0) + 696u);
+    w2c_j0 = i64_load(&instance->w2c_memory, (u64)(w2c_i0) + 672u);
     w2c_l16 = w2c_j0;
     w2c_j0 = w2c_l3;
     w2c_i0 = (u32)(w2c_j0);
-    w2c_j0 = i64_load(&instance->w2c_memory, (u64)(w2c_i0) + 680u);
+    w2c_j0 = i64_load(&instance->w2c_memory, (u64)(w2c_i0) + 656u);
     w2c_l13 = w2c_j0;
     w2c_j0 = w2c_l3;
     w2c_i0 = (u32)(w2c_j0);
-    w2c_j0 = i64_load(&instance->w2c_memory, (u64)(w2c_i0) + 688u);
+    w2c_j0 = i64_load(&instance->w2c_memory, (u64)(w2c_i0) + 664u);
     w2c_l4 = w2c_j0;
     goto w2c_B71;
     w2c_B75:;
@@ -7655,15 +7648,15 @@ static void w2c_f9(Z_dine_ffi_instance_t* instance, u64 w2c_p0, u64 w2c_p1, u64 
     }
     w2c_j0 = w2c_l3;
     w2c_i0 = (u32)(w2c_j0);
-    w2c_j0 = i64_load(&instance->w2c_memory, (u64)(w2c_i0) + 696u);
+    w2c_j0 = i64_load(&instance->w2c_memory, (u64)(w2c_i0) + 672u);
     w2c_l11 = w2c_j0;
     w2c_j0 = w2c_l3;
     w2c_i0 = (u32)(w2c_j0);
-    w2c_j0 = i64_load(&instance->w2c_memory, (u64)(w2c_i0) + 680u);
+    w2c_j0 = i64_load(&instance->w2c_memory, (u64)(w2c_i0) + 656u);
     w2c_l4 = w2c_j0;
     w2c_j0 = w2c_l3;
     w2c_i0 = (u32)(w2c_j0);
-    w2c_j0 = i64_load(&instance->w2c_memory, (u64)(w2c_i0) + 688u);
+    w2c_j0 = i64_load(&instance->w2c_memory, (u64)(w2c_i0) + 664u);
     w2c_l10 = w2c_j0;
     w2c_i0 = !(w2c_j0);
     w2c_i0 = !(w2c_i0);
@@ -7742,7 +7735,7 @@ static void w2c_f9(Z_dine_ffi_instance_t* instance, u64 w2c_p0, u64 w2c_p1, u64 
     w2c_j2 = 1ull;
     w2c_j1 += w2c_j2;
     w2c_l7 = w2c_j1;
-    i64_store(&instance->w2c_memory, (u64)(w2c_i0) + 688, w2c_j1);
+    i64_store(&instance->w2c_memory, (u64)(w2c_i0) + 664, w2c_j1);
     w2c_j0 = w2c_l5;
     w2c_i0 = !(w2c_j0);
     w2c_i0 = !(w2c_i0);
@@ -7803,15 +7796,15 @@ static void w2c_f9(Z_dine_ffi_instance_t* instance, u64 w2c_p0, u64 w2c_p1, u64 
   w2c_j0 = w2c_l3;
   w2c_i0 = (u32)(w2c_j0);
   w2c_j1 = w2c_l16;
-  i64_store(&instance->w2c_memory, (u64)(w2c_i0) + 1128, w2c_j1);
+  i64_store(&instance->w2c_memory, (u64)(w2c_i0) + 1064, w2c_j1);
   w2c_j0 = w2c_l3;
   w2c_i0 = (u32)(w2c_j0);
   w2c_j1 = w2c_l7;
-  i64_store(&instance->w2c_memory, (u64)(w2c_i0) + 1120, w2c_j1);
+  i64_store(&instance->w2c_memory, (u64)(w2c_i0) + 1056, w2c_j1);
   w2c_j0 = w2c_l3;
   w2c_i0 = (u32)(w2c_j0);
   w2c_j1 = w2c_l13;
-  i64_store(&instance->w2c_memory, (u64)(w2c_i0) + 1112, w2c_j1);
+  i64_store(&instance->w2c_memory, (u64)(w2c_i0) + 1048, w2c_j1);
   w2c_j0 = w2c_l26;
   w2c_j1 = 0ull;
   w2c_i2 = w2c_l42;
@@ -7830,7 +7823,7 @@ static void w2c_f9(Z_dine_ffi_instance_t* instance, u64 w2c_p0, u64 w2c_p1, u64 
   w2c_i0 = w2c_i0 != w2c_i1;
   w2c_l44 = w2c_i0;
   w2c_j0 = w2c_l3;
-  w2c_j1 = 1112ull;
+  w2c_j1 = 1048ull;
   w2c_j0 += w2c_j1;
   w2c_p1 = w2c_j0;
   w2c_i0 = (u32)(w2c_j0);
@@ -7884,13 +7877,13 @@ static void w2c_f9(Z_dine_ffi_instance_t* instance, u64 w2c_p0, u64 w2c_p1, u64 
   }
   w2c_j0 = w2c_l3;
   w2c_i0 = (u32)(w2c_j0);
-  w2c_i0 = i32_load8_u(&instance->w2c_memory, (u64)(w2c_i0) + 1216u);
+  w2c_i0 = i32_load8_u(&instance->w2c_memory, (u64)(w2c_i0) + 1152u);
   w2c_i1 = 1u;
   w2c_i0 = w2c_i0 != w2c_i1;
   if (w2c_i0) {goto w2c_B11;}
   w2c_j0 = w2c_l3;
   w2c_i0 = (u32)(w2c_j0);
-  w2c_j0 = i64_load(&instance->w2c_memory, (u64)(w2c_i0) + 1224u);
+  w2c_j0 = i64_load(&instance->w2c_memory, (u64)(w2c_i0) + 1160u);
   w2c_f20(instance, w2c_j0);
   goto w2c_B11;
   w2c_B13:;
@@ -7938,37 +7931,37 @@ static void w2c_f9(Z_dine_ffi_instance_t* instance, u64 w2c_p0, u64 w2c_p1, u64 
   }
   w2c_j0 = w2c_l3;
   w2c_i0 = (u32)(w2c_j0);
-  w2c_i0 = i32_load8_u(&instance->w2c_memory, (u64)(w2c_i0) + 1216u);
+  w2c_i0 = i32_load8_u(&instance->w2c_memory, (u64)(w2c_i0) + 1152u);
   w2c_i1 = 1u;
   w2c_i0 = w2c_i0 != w2c_i1;
   if (w2c_i0) {goto w2c_B11;}
   w2c_j0 = w2c_l3;
   w2c_i0 = (u32)(w2c_j0);
-  w2c_j0 = i64_load(&instance->w2c_memory, (u64)(w2c_i0) + 1224u);
+  w2c_j0 = i64_load(&instance->w2c_memory, (u64)(w2c_i0) + 1160u);
   w2c_f20(instance, w2c_j0);
   w2c_B11:;
   w2c_j0 = w2c_l3;
   w2c_i0 = (u32)(w2c_j0);
   w2c_j1 = w2c_l7;
-  i64_store(&instance->w2c_memory, (u64)(w2c_i0) + 1088, w2c_j1);
+  i64_store(&instance->w2c_memory, (u64)(w2c_i0) + 1024, w2c_j1);
   w2c_j0 = w2c_l3;
   w2c_i0 = (u32)(w2c_j0);
   w2c_j1 = w2c_l4;
-  i64_store(&instance->w2c_memory, (u64)(w2c_i0) + 1080, w2c_j1);
+  i64_store(&instance->w2c_memory, (u64)(w2c_i0) + 1016, w2c_j1);
   w2c_j0 = w2c_l3;
   w2c_i0 = (u32)(w2c_j0);
   w2c_i1 = w2c_l42;
-  i32_store8(&instance->w2c_memory, (u64)(w2c_i0) + 1073, w2c_i1);
+  i32_store8(&instance->w2c_memory, (u64)(w2c_i0) + 1009, w2c_i1);
   w2c_j0 = w2c_l3;
   w2c_i0 = (u32)(w2c_j0);
   w2c_i1 = w2c_l44;
-  i32_store8(&instance->w2c_memory, (u64)(w2c_i0) + 1072, w2c_i1);
+  i32_store8(&instance->w2c_memory, (u64)(w2c_i0) + 1008, w2c_i1);
   w2c_j0 = w2c_l3;
   w2c_j1 = 304ull;
   w2c_j0 += w2c_j1;
   w2c_l4 = w2c_j0;
   w2c_j0 = w2c_l3;
-  w2c_j1 = 1072ull;
+  w2c_j1 = 1008ull;
   w2c_j0 += w2c_j1;
   w2c_p1 = w2c_j0;
   w2c_i0 = (u32)(w2c_j0);
@@ -8148,27 +8141,15 @@ static void w2c_f9(Z_dine_ffi_instance_t* instance, u64 w2c_p0, u64 w2c_p1, u64 
   w2c_j0 = w2c_l3;
   w2c_i0 = (u32)(w2c_j0);
   w2c_j1 = 0ull;
-  i64_store(&instance->w2c_memory, (u64)(w2c_i0) + 816, w2c_j1);
-  w2c_j0 = w2c_l3;
-  w2c_i0 = (u32)(w2c_j0);
-  w2c_j1 = 0ull;
-  i64_store(&instance->w2c_memory, (u64)(w2c_i0) + 808, w2c_j1);
-  w2c_j0 = w2c_l3;
-  w2c_i0 = (u32)(w2c_j0);
-  w2c_j1 = 0ull;
-  i64_store(&instance->w2c_memory, (u64)(w2c_i0) + 800, w2c_j1);
-  w2c_j0 = w2c_l3;
-  w2c_i0 = (u32)(w2c_j0);
-  w2c_j1 = 0ull;
-  i64_store(&instance->w2c_memory, (u64)(w2c_i0) + 792, w2c_j1);
-  w2c_j0 = w2c_l3;
-  w2c_i0 = (u32)(w2c_j0);
-  w2c_j1 = 0ull;
   i64_store(&instance->w2c_memory, (u64)(w2c_i0) + 784, w2c_j1);
   w2c_j0 = w2c_l3;
   w2c_i0 = (u32)(w2c_j0);
   w2c_j1 = 0ull;
-  i64_store(&instance->w2c_memory, (u64)(w2c_i0) + 752, w2c_j1);
+  i64_store(&instance->w2c_memory, (u64)(w2c_i0) + 776, w2c_j1);
+  w2c_j0 = w2c_l3;
+  w2c_i0 = (u32)(w2c_j0);
+  w2c_j1 = 0ull;
+  i64_store(&instance->w2c_memory, (u64)(w2c_i0) + 768, w2c_j1);
   w2c_j0 = w2c_l3;
   w2c_i0 = (u32)(w2c_j0);
   w2c_j1 = 0ull;
@@ -8176,13 +8157,21 @@ static void w2c_f9(Z_dine_ffi_instance_t* instance, u64 w2c_p0, u64 w2c_p1, u64 
   w2c_j0 = w2c_l3;
   w2c_i0 = (u32)(w2c_j0);
   w2c_j1 = 0ull;
-  i64_store(&instance->w2c_memory, (u64)(w2c_i0) + 768, w2c_j1);
+  i64_store(&instance->w2c_memory, (u64)(w2c_i0) + 752, w2c_j1);
   w2c_j0 = w2c_l3;
   w2c_i0 = (u32)(w2c_j0);
-  w2c_i1 = 0u;
-  i32_store(&instance->w2c_memory, (u64)(w2c_i0) + 776, w2c_i1);
+  w2c_j1 = 0ull;
+  i64_store(&instance->w2c_memory, (u64)(w2c_i0) + 728, w2c_j1);
   w2c_j0 = w2c_l3;
-  w2c_j1 = 680ull;
+  w2c_i0 = (u32)(w2c_j0);
+  w2c_j1 = 0ull;
+  i64_store(&instance->w2c_memory, (u64)(w2c_i0) + 736, w2c_j1);
+  w2c_j0 = w2c_l3;
+  w2c_i0 = (u32)(w2c_j0);
+  w2c_j1 = 0ull;
+  i64_store(&instance->w2c_memory, (u64)(w2c_i0) + 744, w2c_j1);
+  w2c_j0 = w2c_l3;
+  w2c_j1 = 656ull;
   w2c_j0 += w2c_j1;
   w2c_i0 = (u32)(w2c_j0);
   w2c_i1 = 0u;
@@ -8190,39 +8179,27 @@ static void w2c_f9(Z_dine_ffi_instance_t* instance, u64 w2c_p0, u64 w2c_p1, u64 
   memory_fill(&instance->w2c_memory, w2c_i0, w2c_i1, w2c_i2);
   w2c_j0 = w2c_l3;
   w2c_i0 = (u32)(w2c_j0);
-  w2c_j1 = 0ull;
-  i64_store(&instance->w2c_memory, (u64)(w2c_i0) + 672, w2c_j1);
-  w2c_j0 = w2c_l3;
-  w2c_i0 = (u32)(w2c_j0);
-  w2c_j1 = 0ull;
-  i64_store(&instance->w2c_memory, (u64)(w2c_i0) + 664, w2c_j1);
-  w2c_j0 = w2c_l3;
-  w2c_i0 = (u32)(w2c_j0);
-  w2c_j1 = 0ull;
-  i64_store(&instance->w2c_memory, (u64)(w2c_i0) + 656, w2c_j1);
-  w2c_j0 = w2c_l3;
-  w2c_i0 = (u32)(w2c_j0);
   w2c_j1 = w2c_l7;
-  i64_store(&instance->w2c_memory, (u64)(w2c_i0) + 808, w2c_j1);
+  i64_store(&instance->w2c_memory, (u64)(w2c_i0) + 776, w2c_j1);
   w2c_j0 = w2c_l3;
   w2c_i0 = (u32)(w2c_j0);
   w2c_j1 = w2c_l10;
-  i64_store(&instance->w2c_memory, (u64)(w2c_i0) + 800, w2c_j1);
+  i64_store(&instance->w2c_memory, (u64)(w2c_i0) + 768, w2c_j1);
   w2c_j0 = w2c_l3;
   w2c_i0 = (u32)(w2c_j0);
   w2c_i1 = w2c_l45;
   w2c_j1 = (u64)(w2c_i1);
   w2c_j2 = 255ull;
   w2c_j1 &= w2c_j2;
-  i64_store(&instance->w2c_memory, (u64)(w2c_i0) + 792, w2c_j1);
+  i64_store(&instance->w2c_memory, (u64)(w2c_i0) + 760, w2c_j1);
   w2c_j0 = w2c_l3;
   w2c_i0 = (u32)(w2c_j0);
   w2c_i1 = 0u;
-  i32_store(&instance->w2c_memory, (u64)(w2c_i0) + 788, w2c_i1);
+  i32_store(&instance->w2c_memory, (u64)(w2c_i0) + 756, w2c_i1);
   w2c_j0 = w2c_l3;
   w2c_i0 = (u32)(w2c_j0);
   w2c_i1 = 6u;
-  i32_store8(&instance->w2c_memory, (u64)(w2c_i0) + 784, w2c_i1);
+  i32_store8(&instance->w2c_memory, (u64)(w2c_i0) + 752, w2c_i1);
   w2c_i0 = w2c_l45;
   w2c_i1 = 255u;
   w2c_i0 &= w2c_i1;
@@ -8236,7 +8213,7 @@ static void w2c_f9(Z_dine_ffi_instance_t* instance, u64 w2c_p0, u64 w2c_p1, u64 
     goto w2c_B115;
   }
   w2c_j0 = w2c_l3;
-  w2c_j1 = 800ull;
+  w2c_j1 = 768ull;
   w2c_j0 += w2c_j1;
   w2c_l9 = w2c_j0;
   w2c_j0 = w2c_l10;
@@ -8274,11 +8251,11 @@ static void w2c_f9(Z_dine_ffi_instance_t* instance, u64 w2c_p0, u64 w2c_p1, u64 
         w2c_j0 = w2c_l3;
         w2c_i0 = (u32)(w2c_j0);
         w2c_j1 = 7ull;
-        i64_store(&instance->w2c_memory, (u64)(w2c_i0) + 960, w2c_j1);
+        i64_store(&instance->w2c_memory, (u64)(w2c_i0) + 896, w2c_j1);
         w2c_j0 = w2c_l3;
         w2c_i0 = (u32)(w2c_j0);
         w2c_j1 = 1059632ull;
-        i64_store(&instance->w2c_memory, (u64)(w2c_i0) + 952, w2c_j1);
+        i64_store(&instance->w2c_memory, (u64)(w2c_i0) + 888, w2c_j1);
         w2c_j0 = w2c_l3;
         w2c_i0 = (u32)(w2c_j0);
         w2c_j1 = w2c_l8;
@@ -8288,7 +8265,7 @@ static void w2c_f9(Z_dine_ffi_instance_t* instance, u64 w2c_p0, u64 w2c_p1, u64 
         w2c_j1 = w2c_l7;
         i64_store(&instance->w2c_memory, (u64)(w2c_i0) + 584, w2c_j1);
         w2c_j0 = w2c_l3;
-        w2c_j1 = 952ull;
+        w2c_j1 = 888ull;
         w2c_j0 += w2c_j1;
         w2c_j1 = w2c_l3;
         w2c_j2 = 584ull;
@@ -8424,11 +8401,11 @@ static void w2c_f9(Z_dine_ffi_instance_t* instance, u64 w2c_p0, u64 w2c_p1, u64 
         w2c_j0 = w2c_l3;
         w2c_i0 = (u32)(w2c_j0);
         w2c_j1 = 4ull;
-        i64_store(&instance->w2c_memory, (u64)(w2c_i0) + 960, w2c_j1);
+        i64_store(&instance->w2c_memory, (u64)(w2c_i0) + 896, w2c_j1);
         w2c_j0 = w2c_l3;
         w2c_i0 = (u32)(w2c_j0);
         w2c_j1 = 1059624ull;
-        i64_store(&instance->w2c_memory, (u64)(w2c_i0) + 952, w2c_j1);
+        i64_store(&instance->w2c_memory, (u64)(w2c_i0) + 888, w2c_j1);
         w2c_j0 = w2c_l3;
         w2c_i0 = (u32)(w2c_j0);
         w2c_j1 = w2c_l8;
@@ -8438,7 +8415,7 @@ static void w2c_f9(Z_dine_ffi_instance_t* instance, u64 w2c_p0, u64 w2c_p1, u64 
         w2c_j1 = w2c_l7;
         i64_store(&instance->w2c_memory, (u64)(w2c_i0) + 584, w2c_j1);
         w2c_j0 = w2c_l3;
-        w2c_j1 = 952ull;
+        w2c_j1 = 888ull;
         w2c_j0 += w2c_j1;
         w2c_j1 = w2c_l3;
         w2c_j2 = 584ull;
@@ -8546,11 +8523,11 @@ static void w2c_f9(Z_dine_ffi_instance_t* instance, u64 w2c_p0, u64 w2c_p1, u64 
         w2c_j0 = w2c_l3;
         w2c_i0 = (u32)(w2c_j0);
         w2c_j1 = 4ull;
-        i64_store(&instance->w2c_memory, (u64)(w2c_i0) + 960, w2c_j1);
+        i64_store(&instance->w2c_memory, (u64)(w2c_i0) + 896, w2c_j1);
         w2c_j0 = w2c_l3;
         w2c_i0 = (u32)(w2c_j0);
         w2c_j1 = 1059628ull;
-        i64_store(&instance->w2c_memory, (u64)(w2c_i0) + 952, w2c_j1);
+        i64_store(&instance->w2c_memory, (u64)(w2c_i0) + 888, w2c_j1);
         w2c_j0 = w2c_l3;
         w2c_i0 = (u32)(w2c_j0);
         w2c_j1 = w2c_l8;
@@ -8560,7 +8537,7 @@ static void w2c_f9(Z_dine_ffi_instance_t* instance, u64 w2c_p0, u64 w2c_p1, u64 
         w2c_j1 = w2c_l7;
         i64_store(&instance->w2c_memory, (u64)(w2c_i0) + 584, w2c_j1);
         w2c_j0 = w2c_l3;
-        w2c_j1 = 952ull;
+        w2c_j1 = 888ull;
         w2c_j0 += w2c_j1;
         w2c_j1 = w2c_l3;
         w2c_j2 = 584ull;
@@ -8680,11 +8657,11 @@ static void w2c_f9(Z_dine_ffi_instance_t* instance, u64 w2c_p0, u64 w2c_p1, u64 
         w2c_j0 = w2c_l3;
         w2c_i0 = (u32)(w2c_j0);
         w2c_j1 = 7ull;
-        i64_store(&instance->w2c_memory, (u64)(w2c_i0) + 960, w2c_j1);
+        i64_store(&instance->w2c_memory, (u64)(w2c_i0) + 896, w2c_j1);
         w2c_j0 = w2c_l3;
         w2c_i0 = (u32)(w2c_j0);
         w2c_j1 = 1059632ull;
-        i64_store(&instance->w2c_memory, (u64)(w2c_i0) + 952, w2c_j1);
+        i64_store(&instance->w2c_memory, (u64)(w2c_i0) + 888, w2c_j1);
         w2c_j0 = w2c_l3;
         w2c_i0 = (u32)(w2c_j0);
         w2c_j1 = w2c_l8;
@@ -8694,7 +8671,7 @@ static void w2c_f9(Z_dine_ffi_instance_t* instance, u64 w2c_p0, u64 w2c_p1, u64 
         w2c_j1 = w2c_l7;
         i64_store(&instance->w2c_memory, (u64)(w2c_i0) + 584, w2c_j1);
         w2c_j0 = w2c_l3;
-        w2c_j1 = 952ull;
+        w2c_j1 = 888ull;
         w2c_j0 += w2c_j1;
         w2c_j1 = w2c_l3;
         w2c_j2 = 584ull;
@@ -8812,11 +8789,11 @@ static void w2c_f9(Z_dine_ffi_instance_t* instance, u64 w2c_p0, u64 w2c_p1, u64 
         w2c_j0 = w2c_l3;
         w2c_i0 = (u32)(w2c_j0);
         w2c_j1 = 4ull;
-        i64_store(&instance->w2c_memory, (u64)(w2c_i0) + 960, w2c_j1);
+        i64_store(&instance->w2c_memory, (u64)(w2c_i0) + 896, w2c_j1);
         w2c_j0 = w2c_l3;
         w2c_i0 = (u32)(w2c_j0);
         w2c_j1 = 1059628ull;
-        i64_store(&instance->w2c_memory, (u64)(w2c_i0) + 952, w2c_j1);
+        i64_store(&instance->w2c_memory, (u64)(w2c_i0) + 888, w2c_j1);
         w2c_j0 = w2c_l3;
         w2c_i0 = (u32)(w2c_j0);
         w2c_j1 = w2c_l8;
@@ -8826,7 +8803,7 @@ static void w2c_f9(Z_dine_ffi_instance_t* instance, u64 w2c_p0, u64 w2c_p1, u64 
         w2c_j1 = w2c_l7;
         i64_store(&instance->w2c_memory, (u64)(w2c_i0) + 584, w2c_j1);
         w2c_j0 = w2c_l3;
-        w2c_j1 = 952ull;
+        w2c_j1 = 888ull;
         w2c_j0 += w2c_j1;
         w2c_j1 = w2c_l3;
         w2c_j2 = 584ull;
@@ -8868,7 +8845,7 @@ static void w2c_f9(Z_dine_ffi_instance_t* instance, u64 w2c_p0, u64 w2c_p1, u64 
       w2c_l4 = w2c_j0;
     }
     w2c_j0 = w2c_l3;
-    w2c_j1 = 1384ull;
+    w2c_j1 = 1320ull;
     w2c_j0 += w2c_j1;
     w2c_j1 = w2c_l10;
     w2c_j2 = 2ull;
@@ -8888,7 +8865,7 @@ static void w2c_f9(Z_dine_ffi_instance_t* instance, u64 w2c_p0, u64 w2c_p1, u64 
     goto w2c_L149;
     w2c_B150:;
   w2c_j0 = w2c_l3;
-  w2c_j1 = 1384ull;
+  w2c_j1 = 1320ull;
   w2c_j0 += w2c_j1;
   w2c_j1 = w2c_l5;
   w2c_j2 = 16ull;
@@ -8912,7 +8889,7 @@ static void w2c_f9(Z_dine_ffi_instance_t* instance, u64 w2c_p0, u64 w2c_p1, u64 
   w2c_i0 = 1u;
   w2c_l54 = w2c_i0;
   w2c_j0 = w2c_l3;
-  w2c_j1 = 784ull;
+  w2c_j1 = 752ull;
   w2c_j0 += w2c_j1;
   w2c_j1 = 1059640ull;
   w2c_j2 = 3ull;
@@ -8956,14 +8933,14 @@ static void w2c_f9(Z_dine_ffi_instance_t* instance, u64 w2c_p0, u64 w2c_p1, u64 
   w2c_B155:;
   w2c_j0 = w2c_l3;
   w2c_i0 = (u32)(w2c_j0);
-  w2c_i0 = i32_load8_u(&instance->w2c_memory, (u64)(w2c_i0) + 784u);
+  w2c_i0 = i32_load8_u(&instance->w2c_memory, (u64)(w2c_i0) + 752u);
   w2c_l44 = w2c_i0;
   w2c_i1 = 6u;
   w2c_i0 = w2c_i0 != w2c_i1;
   if (w2c_i0) {goto w2c_B160;}
   w2c_j0 = w2c_l3;
   w2c_i0 = (u32)(w2c_j0);
-  w2c_i0 = i32_load8_u(&instance->w2c_memory, (u64)(w2c_i0) + 792u);
+  w2c_i0 = i32_load8_u(&instance->w2c_memory, (u64)(w2c_i0) + 760u);
   w2c_i1 = 1u;
   w2c_i0 = w2c_i0 != w2c_i1;
   if (w2c_i0) {goto w2c_B160;}
@@ -9005,11 +8982,11 @@ static void w2c_f9(Z_dine_ffi_instance_t* instance, u64 w2c_p0, u64 w2c_p1, u64 
         w2c_j0 = w2c_l3;
         w2c_i0 = (u32)(w2c_j0);
         w2c_j1 = 4ull;
-        i64_store(&instance->w2c_memory, (u64)(w2c_i0) + 960, w2c_j1);
+        i64_store(&instance->w2c_memory, (u64)(w2c_i0) + 896, w2c_j1);
         w2c_j0 = w2c_l3;
         w2c_i0 = (u32)(w2c_j0);
         w2c_j1 = 1059628ull;
-        i64_store(&instance->w2c_memory, (u64)(w2c_i0) + 952, w2c_j1);
+        i64_store(&instance->w2c_memory, (u64)(w2c_i0) + 888, w2c_j1);
         w2c_j0 = w2c_l3;
         w2c_i0 = (u32)(w2c_j0);
         w2c_j1 = w2c_l8;
@@ -9019,7 +8996,7 @@ static void w2c_f9(Z_dine_ffi_instance_t* instance, u64 w2c_p0, u64 w2c_p1, u64 
         w2c_j1 = w2c_l7;
         i64_store(&instance->w2c_memory, (u64)(w2c_i0) + 584, w2c_j1);
         w2c_j0 = w2c_l3;
-        w2c_j1 = 952ull;
+        w2c_j1 = 888ull;
         w2c_j0 += w2c_j1;
         w2c_j1 = w2c_l3;
         w2c_j2 = 584ull;
@@ -9150,11 +9127,11 @@ static void w2c_f9(Z_dine_ffi_instance_t* instance, u64 w2c_p0, u64 w2c_p1, u64 
           w2c_j0 = w2c_l3;
           w2c_i0 = (u32)(w2c_j0);
           w2c_j1 = 4ull;
-          i64_store(&instance->w2c_memory, (u64)(w2c_i0) + 960, w2c_j1);
+          i64_store(&instance->w2c_memory, (u64)(w2c_i0) + 896, w2c_j1);
           w2c_j0 = w2c_l3;
           w2c_i0 = (u32)(w2c_j0);
           w2c_j1 = 1059776ull;
-          i64_store(&instance->w2c_memory, (u64)(w2c_i0) + 952, w2c_j1);
+          i64_store(&instance->w2c_memory, (u64)(w2c_i0) + 888, w2c_j1);
           w2c_j0 = w2c_l3;
           w2c_i0 = (u32)(w2c_j0);
           w2c_j1 = w2c_l7;
@@ -9164,7 +9141,7 @@ static void w2c_f9(Z_dine_ffi_instance_t* instance, u64 w2c_p0, u64 w2c_p1, u64 
           w2c_j1 = w2c_l5;
           i64_store(&instance->w2c_memory, (u64)(w2c_i0) + 584, w2c_j1);
           w2c_j0 = w2c_l3;
-          w2c_j1 = 952ull;
+          w2c_j1 = 888ull;
           w2c_j0 += w2c_j1;
           w2c_j1 = w2c_l3;
           w2c_j2 = 584ull;
@@ -9275,11 +9252,11 @@ static void w2c_f9(Z_dine_ffi_instance_t* instance, u64 w2c_p0, u64 w2c_p1, u64 
         w2c_j0 = w2c_l3;
         w2c_i0 = (u32)(w2c_j0);
         w2c_j1 = 4ull;
-        i64_store(&instance->w2c_memory, (u64)(w2c_i0) + 960, w2c_j1);
+        i64_store(&instance->w2c_memory, (u64)(w2c_i0) + 896, w2c_j1);
         w2c_j0 = w2c_l3;
         w2c_i0 = (u32)(w2c_j0);
         w2c_j1 = 1059628ull;
-        i64_store(&instance->w2c_memory, (u64)(w2c_i0) + 952, w2c_j1);
+        i64_store(&instance->w2c_memory, (u64)(w2c_i0) + 888, w2c_j1);
         w2c_j0 = w2c_l3;
         w2c_i0 = (u32)(w2c_j0);
         w2c_j1 = w2c_l8;
@@ -9289,7 +9266,7 @@ static void w2c_f9(Z_dine_ffi_instance_t* instance, u64 w2c_p0, u64 w2c_p1, u64 
         w2c_j1 = w2c_l7;
         i64_store(&instance->w2c_memory, (u64)(w2c_i0) + 584, w2c_j1);
         w2c_j0 = w2c_l3;
-        w2c_j1 = 952ull;
+        w2c_j1 = 888ull;
         w2c_j0 += w2c_j1;
         w2c_j1 = w2c_l3;
         w2c_j2 = 584ull;
@@ -9331,7 +9308,7 @@ static void w2c_f9(Z_dine_ffi_instance_t* instance, u64 w2c_p0, u64 w2c_p1, u64 
       w2c_l4 = w2c_j0;
     }
     w2c_j0 = w2c_l3;
-    w2c_j1 = 1384ull;
+    w2c_j1 = 1320ull;
     w2c_j0 += w2c_j1;
     w2c_j1 = w2c_l6;
     w2c_j2 = 2ull;
@@ -9349,7 +9326,7 @@ static void w2c_f9(Z_dine_ffi_instance_t* instance, u64 w2c_p0, u64 w2c_p1, u64 
     goto w2c_L178;
     w2c_B179:;
   w2c_j0 = w2c_l3;
-  w2c_j1 = 1384ull;
+  w2c_j1 = 1320ull;
   w2c_j0 += w2c_j1;
   w2c_j1 = w2c_l5;
   w2c_j2 = 16ull;
@@ -9408,11 +9385,11 @@ static void w2c_f9(Z_dine_ffi_instance_t* instance, u64 w2c_p0, u64 w2c_p1, u64 
         w2c_j0 = w2c_l3;
         w2c_i0 = (u32)(w2c_j0);
         w2c_j1 = 4ull;
-        i64_store(&instance->w2c_memory, (u64)(w2c_i0) + 960, w2c_j1);
+        i64_store(&instance->w2c_memory, (u64)(w2c_i0) + 896, w2c_j1);
         w2c_j0 = w2c_l3;
         w2c_i0 = (u32)(w2c_j0);
         w2c_j1 = 1059624ull;
-        i64_store(&instance->w2c_memory, (u64)(w2c_i0) + 952, w2c_j1);
+        i64_store(&instance->w2c_memory, (u64)(w2c_i0) + 888, w2c_j1);
         w2c_j0 = w2c_l3;
         w2c_i0 = (u32)(w2c_j0);
         w2c_j1 = w2c_l8;
@@ -9422,7 +9399,7 @@ static void w2c_f9(Z_dine_ffi_instance_t* instance, u64 w2c_p0, u64 w2c_p1, u64 
         w2c_j1 = w2c_l7;
         i64_store(&instance->w2c_memory, (u64)(w2c_i0) + 584, w2c_j1);
         w2c_j0 = w2c_l3;
-        w2c_j1 = 952ull;
+        w2c_j1 = 888ull;
         w2c_j0 += w2c_j1;
         w2c_j1 = w2c_l3;
         w2c_j2 = 584ull;
@@ -9478,8 +9455,6 @@ static void w2c_f9(Z_dine_ffi_instance_t* instance, u64 w2c_p0, u64 w2c_p1, u64 
     w2c_l4 = w2c_j0;
     goto w2c_L185;
     w2c_B186:;
-  w2c_i0 = 1u;
-  w2c_l46 = w2c_i0;
   w2c_j0 = w2c_l5;
   w2c_j1 = 16ull;
   w2c_j0 -= w2c_j1;
@@ -9487,7 +9462,11 @@ static void w2c_f9(Z_dine_ffi_instance_t* instance, u64 w2c_p0, u64 w2c_p1, u64 
   w2c_i0 = i32_load8_u(&instance->w2c_memory, (u64)(w2c_i0));
   w2c_i1 = 5u;
   w2c_i0 = w2c_i0 != w2c_i1;
-  if (w2c_i0) {goto w2c_B160;}
+  if (w2c_i0) {
+    w2c_i0 = 1u;
+    w2c_l46 = w2c_i0;
+    goto w2c_B160;
+  }
   w2c_j0 = w2c_l5;
   w2c_i0 = (u32)(w2c_j0);
   w2c_j0 = i64_load(&instance->w2c_memory, (u64)(w2c_i0));
@@ -9500,7 +9479,7 @@ static void w2c_f9(Z_dine_ffi_instance_t* instance, u64 w2c_p0, u64 w2c_p1, u64 
   w2c_i0 = (u32)(w2c_j0);
   w2c_j0 = i64_load(&instance->w2c_memory, (u64)(w2c_i0));
   w2c_l4 = w2c_j0;
-  w2c_L191: 
+  w2c_L192: 
     w2c_j0 = w2c_p1;
     w2c_j1 = 1ull;
     w2c_j0 -= w2c_j1;
@@ -9518,10 +9497,12 @@ static void w2c_f9(Z_dine_ffi_instance_t* instance, u64 w2c_p0, u64 w2c_p1, u64 
     w2c_i0 = w2c_l41;
     w2c_i1 = 6u;
     w2c_i0 = w2c_i0 == w2c_i1;
-    if (w2c_i0) {goto w2c_L191;}
+    if (w2c_i0) {goto w2c_L192;}
+  w2c_i0 = 1u;
+  w2c_l46 = w2c_i0;
   goto w2c_B160;
   w2c_B184:;
-  w2c_L193: 
+  w2c_L194: 
     w2c_j0 = w2c_l9;
     w2c_i0 = (u32)(w2c_j0);
     w2c_j0 = i64_load(&instance->w2c_memory, (u64)(w2c_i0));
@@ -9543,7 +9524,7 @@ static void w2c_f9(Z_dine_ffi_instance_t* instance, u64 w2c_p0, u64 w2c_p1, u64 
       w2c_l5 = w2c_j0;
       w2c_j0 = 0ull;
       w2c_p1 = w2c_j0;
-      w2c_L197: 
+      w2c_L198: 
         w2c_j0 = w2c_l4;
         w2c_j1 = 8ull;
         w2c_j0 -= w2c_j1;
@@ -9557,11 +9538,11 @@ static void w2c_f9(Z_dine_ffi_instance_t* instance, u64 w2c_p0, u64 w2c_p1, u64 
         w2c_j0 = w2c_l3;
         w2c_i0 = (u32)(w2c_j0);
         w2c_j1 = 4ull;
-        i64_store(&instance->w2c_memory, (u64)(w2c_i0) + 960, w2c_j1);
+        i64_store(&instance->w2c_memory, (u64)(w2c_i0) + 896, w2c_j1);
         w2c_j0 = w2c_l3;
         w2c_i0 = (u32)(w2c_j0);
         w2c_j1 = 1059628ull;
-        i64_store(&instance->w2c_memory, (u64)(w2c_i0) + 952, w2c_j1);
+        i64_store(&instance->w2c_memory, (u64)(w2c_i0) + 888, w2c_j1);
         w2c_j0 = w2c_l3;
         w2c_i0 = (u32)(w2c_j0);
         w2c_j1 = w2c_l8;
@@ -9571,7 +9552,7 @@ static void w2c_f9(Z_dine_ffi_instance_t* instance, u64 w2c_p0, u64 w2c_p1, u64 
         w2c_j1 = w2c_l7;
         i64_store(&instance->w2c_memory, (u64)(w2c_i0) + 584, w2c_j1);
         w2c_j0 = w2c_l3;
-        w2c_j1 = 952ull;
+        w2c_j1 = 888ull;
         w2c_j0 += w2c_j1;
         w2c_j1 = w2c_l3;
         w2c_j2 = 584ull;
@@ -9586,8 +9567,8 @@ static void w2c_f9(Z_dine_ffi_instance_t* instance, u64 w2c_p0, u64 w2c_p1, u64 
           w2c_i0 = w2c_l41;
           w2c_i1 = 1u;
           w2c_i0 -= w2c_i1;
-          if (w2c_i0) {goto w2c_B196;}
-          goto w2c_B194;
+          if (w2c_i0) {goto w2c_B197;}
+          goto w2c_B195;
         }
         w2c_j0 = w2c_l4;
         w2c_j1 = 24ull;
@@ -9603,10 +9584,10 @@ static void w2c_f9(Z_dine_ffi_instance_t* instance, u64 w2c_p0, u64 w2c_p1, u64 
         w2c_j1 += w2c_j2;
         w2c_p1 = w2c_j1;
         w2c_i0 = w2c_j0 != w2c_j1;
-        if (w2c_i0) {goto w2c_L197;}
+        if (w2c_i0) {goto w2c_L198;}
       w2c_j0 = w2c_p2;
       w2c_p1 = w2c_j0;
-      w2c_B196:;
+      w2c_B197:;
       w2c_j0 = w2c_p1;
       w2c_j1 = 3ull;
       w2c_j0 <<= (w2c_j1 & 63);
@@ -9618,17 +9599,15 @@ static void w2c_f9(Z_dine_ffi_instance_t* instance, u64 w2c_p0, u64 w2c_p1, u64 
     w2c_i0 = (u32)(w2c_j0);
     w2c_i0 = i32_load16_u(&instance->w2c_memory, (u64)(w2c_i0));
     w2c_i0 = !(w2c_i0);
-    if (w2c_i0) {goto w2c_B192;}
+    if (w2c_i0) {goto w2c_B193;}
     w2c_j0 = w2c_l4;
     w2c_j1 = w2c_l6;
     w2c_j0 += w2c_j1;
     w2c_j1 = 968ull;
     w2c_j0 += w2c_j1;
     w2c_l9 = w2c_j0;
-    goto w2c_L193;
-    w2c_B194:;
-  w2c_i0 = 1u;
-  w2c_l46 = w2c_i0;
+    goto w2c_L194;
+    w2c_B195:;
   w2c_j0 = w2c_l5;
   w2c_j1 = 16ull;
   w2c_j0 -= w2c_j1;
@@ -9636,7 +9615,11 @@ static void w2c_f9(Z_dine_ffi_instance_t* instance, u64 w2c_p0, u64 w2c_p1, u64 
   w2c_i0 = i32_load8_u(&instance->w2c_memory, (u64)(w2c_i0));
   w2c_i1 = 5u;
   w2c_i0 = w2c_i0 != w2c_i1;
-  if (w2c_i0) {goto w2c_B160;}
+  if (w2c_i0) {
+    w2c_i0 = 1u;
+    w2c_l46 = w2c_i0;
+    goto w2c_B160;
+  }
   w2c_j0 = w2c_l5;
   w2c_i0 = (u32)(w2c_j0);
   w2c_j0 = i64_load(&instance->w2c_memory, (u64)(w2c_i0));
@@ -9649,13 +9632,13 @@ static void w2c_f9(Z_dine_ffi_instance_t* instance, u64 w2c_p0, u64 w2c_p1, u64 
   w2c_i0 = (u32)(w2c_j0);
   w2c_j0 = i64_load(&instance->w2c_memory, (u64)(w2c_i0));
   w2c_l4 = w2c_j0;
-  w2c_L199: 
+  w2c_L201: 
     w2c_j0 = w2c_p1;
     w2c_j1 = 1ull;
     w2c_j0 -= w2c_j1;
     w2c_p1 = w2c_j0;
     w2c_i0 = !(w2c_j0);
-    if (w2c_i0) {goto w2c_B192;}
+    if (w2c_i0) {goto w2c_B193;}
     w2c_j0 = w2c_l4;
     w2c_i0 = (u32)(w2c_j0);
     w2c_i0 = i32_load8_u(&instance->w2c_memory, (u64)(w2c_i0));
@@ -9667,365 +9650,354 @@ static void w2c_f9(Z_dine_ffi_instance_t* instance, u64 w2c_p0, u64 w2c_p1, u64 
     w2c_i0 = w2c_l41;
     w2c_i1 = 6u;
     w2c_i0 = w2c_i0 == w2c_i1;
-    if (w2c_i0) {goto w2c_L199;}
+    if (w2c_i0) {goto w2c_L201;}
+  w2c_i0 = 1u;
+  w2c_l46 = w2c_i0;
   goto w2c_B160;
-  w2c_B192:;
+  w2c_B193:;
   w2c_j0 = w2c_l10;
   w2c_i0 = !(w2c_j0);
-  w2c_i0 = !(w2c_i0);
-  if (w2c_i0) {
-    w2c_L201: 
-      w2c_j0 = w2c_l11;
+  if (w2c_i0) {goto w2c_B160;}
+  w2c_L202: 
+    w2c_j0 = w2c_l11;
+    w2c_i0 = (u32)(w2c_j0);
+    w2c_i0 = i32_load8_u(&instance->w2c_memory, (u64)(w2c_i0));
+    w2c_i1 = 6u;
+    w2c_i0 = w2c_i0 != w2c_i1;
+    if (w2c_i0) {goto w2c_B203;}
+    w2c_j0 = w2c_l11;
+    w2c_j1 = 8ull;
+    w2c_j0 += w2c_j1;
+    w2c_i0 = (u32)(w2c_j0);
+    w2c_i0 = i32_load8_u(&instance->w2c_memory, (u64)(w2c_i0));
+    w2c_i1 = 1u;
+    w2c_i0 = w2c_i0 != w2c_i1;
+    if (w2c_i0) {goto w2c_B203;}
+    w2c_j0 = w2c_l11;
+    w2c_j1 = 16ull;
+    w2c_j0 += w2c_j1;
+    w2c_l9 = w2c_j0;
+    w2c_l4 = w2c_j0;
+    w2c_L205: 
+      w2c_j0 = w2c_l4;
       w2c_i0 = (u32)(w2c_j0);
-      w2c_i0 = i32_load8_u(&instance->w2c_memory, (u64)(w2c_i0));
-      w2c_i1 = 6u;
-      w2c_i0 = w2c_i0 != w2c_i1;
-      if (w2c_i0) {goto w2c_B202;}
-      w2c_j0 = w2c_l11;
-      w2c_j1 = 8ull;
+      w2c_j0 = i64_load(&instance->w2c_memory, (u64)(w2c_i0));
+      w2c_l6 = w2c_j0;
+      w2c_i0 = (u32)(w2c_j0);
+      w2c_j0 = i64_load16_u(&instance->w2c_memory, (u64)(w2c_i0));
+      w2c_p2 = w2c_j0;
+      w2c_i0 = !(w2c_j0);
+      if (w2c_i0) {
+        w2c_j0 = 0ull;
+      } else {
+        w2c_j0 = w2c_l6;
+        w2c_j1 = 16ull;
+        w2c_j0 += w2c_j1;
+        w2c_l4 = w2c_j0;
+        w2c_j0 = w2c_l6;
+        w2c_j1 = 368ull;
+        w2c_j0 += w2c_j1;
+        w2c_l5 = w2c_j0;
+        w2c_j0 = 0ull;
+        w2c_p1 = w2c_j0;
+        w2c_L209: 
+          w2c_j0 = w2c_l4;
+          w2c_j1 = 8ull;
+          w2c_j0 -= w2c_j1;
+          w2c_i0 = (u32)(w2c_j0);
+          w2c_j0 = i64_load(&instance->w2c_memory, (u64)(w2c_i0));
+          w2c_l7 = w2c_j0;
+          w2c_j0 = w2c_l4;
+          w2c_i0 = (u32)(w2c_j0);
+          w2c_j0 = i64_load(&instance->w2c_memory, (u64)(w2c_i0));
+          w2c_l8 = w2c_j0;
+          w2c_j0 = w2c_l3;
+          w2c_i0 = (u32)(w2c_j0);
+          w2c_j1 = 4ull;
+          i64_store(&instance->w2c_memory, (u64)(w2c_i0) + 896, w2c_j1);
+          w2c_j0 = w2c_l3;
+          w2c_i0 = (u32)(w2c_j0);
+          w2c_j1 = 1059776ull;
+          i64_store(&instance->w2c_memory, (u64)(w2c_i0) + 888, w2c_j1);
+          w2c_j0 = w2c_l3;
+          w2c_i0 = (u32)(w2c_j0);
+          w2c_j1 = w2c_l8;
+          i64_store(&instance->w2c_memory, (u64)(w2c_i0) + 592, w2c_j1);
+          w2c_j0 = w2c_l3;
+          w2c_i0 = (u32)(w2c_j0);
+          w2c_j1 = w2c_l7;
+          i64_store(&instance->w2c_memory, (u64)(w2c_i0) + 584, w2c_j1);
+          w2c_j0 = w2c_l3;
+          w2c_j1 = 888ull;
+          w2c_j0 += w2c_j1;
+          w2c_j1 = w2c_l3;
+          w2c_j2 = 584ull;
+          w2c_j1 += w2c_j2;
+          w2c_i0 = w2c_f21(instance, w2c_j0, w2c_j1);
+          w2c_i1 = 255u;
+          w2c_i0 &= w2c_i1;
+          w2c_l41 = w2c_i0;
+          w2c_i1 = 2u;
+          w2c_i0 = w2c_i0 != w2c_i1;
+          if (w2c_i0) {
+            w2c_i0 = w2c_l41;
+            w2c_i1 = 1u;
+            w2c_i0 -= w2c_i1;
+            if (w2c_i0) {goto w2c_B208;}
+            goto w2c_B206;
+          }
+          w2c_j0 = w2c_l4;
+          w2c_j1 = 24ull;
+          w2c_j0 += w2c_j1;
+          w2c_l4 = w2c_j0;
+          w2c_j0 = w2c_l5;
+          w2c_j1 = 40ull;
+          w2c_j0 += w2c_j1;
+          w2c_l5 = w2c_j0;
+          w2c_j0 = w2c_p2;
+          w2c_j1 = w2c_p1;
+          w2c_j2 = 1ull;
+          w2c_j1 += w2c_j2;
+          w2c_p1 = w2c_j1;
+          w2c_i0 = w2c_j0 != w2c_j1;
+          if (w2c_i0) {goto w2c_L209;}
+        w2c_j0 = w2c_p2;
+        w2c_p1 = w2c_j0;
+        w2c_B208:;
+        w2c_j0 = w2c_p1;
+        w2c_j1 = 3ull;
+        w2c_j0 <<= (w2c_j1 & 63);
+      }
+      w2c_l4 = w2c_j0;
+      w2c_j0 = w2c_l6;
+      w2c_j1 = 2ull;
       w2c_j0 += w2c_j1;
       w2c_i0 = (u32)(w2c_j0);
-      w2c_i0 = i32_load8_u(&instance->w2c_memory, (u64)(w2c_i0));
-      w2c_i1 = 1u;
-      w2c_i0 = w2c_i0 != w2c_i1;
-      if (w2c_i0) {goto w2c_B202;}
-      w2c_j0 = w2c_l11;
-      w2c_j1 = 16ull;
+      w2c_i0 = i32_load16_u(&instance->w2c_memory, (u64)(w2c_i0));
+      w2c_i0 = !(w2c_i0);
+      if (w2c_i0) {goto w2c_B204;}
+      w2c_j0 = w2c_l4;
+      w2c_j1 = w2c_l6;
+      w2c_j0 += w2c_j1;
+      w2c_j1 = 968ull;
+      w2c_j0 += w2c_j1;
+      w2c_l4 = w2c_j0;
+      goto w2c_L205;
+      w2c_B206:;
+    w2c_j0 = w2c_l5;
+    w2c_i0 = (u32)(w2c_j0);
+    w2c_i0 = i32_load8_u(&instance->w2c_memory, (u64)(w2c_i0));
+    w2c_i1 = 5u;
+    w2c_i0 = w2c_i0 != w2c_i1;
+    if (w2c_i0) {
+      w2c_i0 = 1u;
+      w2c_l46 = w2c_i0;
+      goto w2c_B160;
+    }
+    w2c_j0 = w2c_l5;
+    w2c_j1 = 16ull;
+    w2c_j0 += w2c_j1;
+    w2c_i0 = (u32)(w2c_j0);
+    w2c_j0 = i64_load(&instance->w2c_memory, (u64)(w2c_i0));
+    w2c_j1 = 2ull;
+    w2c_i0 = w2c_j0 != w2c_j1;
+    if (w2c_i0) {
+      w2c_i0 = 1u;
+      w2c_l46 = w2c_i0;
+      goto w2c_B160;
+    }
+    w2c_j0 = w2c_l5;
+    w2c_j1 = 8ull;
+    w2c_j0 += w2c_j1;
+    w2c_i0 = (u32)(w2c_j0);
+    w2c_j0 = i64_load(&instance->w2c_memory, (u64)(w2c_i0));
+    w2c_l4 = w2c_j0;
+    w2c_i0 = (u32)(w2c_j0);
+    w2c_i0 = i32_load8_u(&instance->w2c_memory, (u64)(w2c_i0));
+    if (w2c_i0) {
+      w2c_i0 = 1u;
+      w2c_l46 = w2c_i0;
+      goto w2c_B160;
+    }
+    w2c_j0 = w2c_l4;
+    w2c_j1 = 40ull;
+    w2c_j0 += w2c_j1;
+    w2c_i0 = (u32)(w2c_j0);
+    w2c_i0 = i32_load8_u(&instance->w2c_memory, (u64)(w2c_i0));
+    w2c_i0 = !(w2c_i0);
+    if (w2c_i0) {goto w2c_B204;}
+    w2c_i0 = 1u;
+    w2c_l46 = w2c_i0;
+    goto w2c_B160;
+    w2c_B204:;
+    w2c_L214: 
+      w2c_j0 = w2c_l9;
+      w2c_i0 = (u32)(w2c_j0);
+      w2c_j0 = i64_load(&instance->w2c_memory, (u64)(w2c_i0));
+      w2c_l6 = w2c_j0;
+      w2c_i0 = (u32)(w2c_j0);
+      w2c_j0 = i64_load16_u(&instance->w2c_memory, (u64)(w2c_i0));
+      w2c_p2 = w2c_j0;
+      w2c_i0 = !(w2c_j0);
+      if (w2c_i0) {
+        w2c_j0 = 0ull;
+      } else {
+        w2c_j0 = w2c_l6;
+        w2c_j1 = 16ull;
+        w2c_j0 += w2c_j1;
+        w2c_l4 = w2c_j0;
+        w2c_j0 = w2c_l6;
+        w2c_j1 = 376ull;
+        w2c_j0 += w2c_j1;
+        w2c_l5 = w2c_j0;
+        w2c_j0 = 0ull;
+        w2c_p1 = w2c_j0;
+        w2c_L218: 
+          w2c_j0 = w2c_l4;
+          w2c_j1 = 8ull;
+          w2c_j0 -= w2c_j1;
+          w2c_i0 = (u32)(w2c_j0);
+          w2c_j0 = i64_load(&instance->w2c_memory, (u64)(w2c_i0));
+          w2c_l7 = w2c_j0;
+          w2c_j0 = w2c_l4;
+          w2c_i0 = (u32)(w2c_j0);
+          w2c_j0 = i64_load(&instance->w2c_memory, (u64)(w2c_i0));
+          w2c_l8 = w2c_j0;
+          w2c_j0 = w2c_l3;
+          w2c_i0 = (u32)(w2c_j0);
+          w2c_j1 = 5ull;
+          i64_store(&instance->w2c_memory, (u64)(w2c_i0) + 896, w2c_j1);
+          w2c_j0 = w2c_l3;
+          w2c_i0 = (u32)(w2c_j0);
+          w2c_j1 = 1059780ull;
+          i64_store(&instance->w2c_memory, (u64)(w2c_i0) + 888, w2c_j1);
+          w2c_j0 = w2c_l3;
+          w2c_i0 = (u32)(w2c_j0);
+          w2c_j1 = w2c_l8;
+          i64_store(&instance->w2c_memory, (u64)(w2c_i0) + 592, w2c_j1);
+          w2c_j0 = w2c_l3;
+          w2c_i0 = (u32)(w2c_j0);
+          w2c_j1 = w2c_l7;
+          i64_store(&instance->w2c_memory, (u64)(w2c_i0) + 584, w2c_j1);
+          w2c_j0 = w2c_l3;
+          w2c_j1 = 888ull;
+          w2c_j0 += w2c_j1;
+          w2c_j1 = w2c_l3;
+          w2c_j2 = 584ull;
+          w2c_j1 += w2c_j2;
+          w2c_i0 = w2c_f21(instance, w2c_j0, w2c_j1);
+          w2c_i1 = 255u;
+          w2c_i0 &= w2c_i1;
+          w2c_l41 = w2c_i0;
+          w2c_i1 = 2u;
+          w2c_i0 = w2c_i0 != w2c_i1;
+          if (w2c_i0) {
+            w2c_i0 = w2c_l41;
+            w2c_i1 = 1u;
+            w2c_i0 -= w2c_i1;
+            if (w2c_i0) {goto w2c_B217;}
+            goto w2c_B215;
+          }
+          w2c_j0 = w2c_l4;
+          w2c_j1 = 24ull;
+          w2c_j0 += w2c_j1;
+          w2c_l4 = w2c_j0;
+          w2c_j0 = w2c_l5;
+          w2c_j1 = 40ull;
+          w2c_j0 += w2c_j1;
+          w2c_l5 = w2c_j0;
+          w2c_j0 = w2c_p2;
+          w2c_j1 = w2c_p1;
+          w2c_j2 = 1ull;
+          w2c_j1 += w2c_j2;
+          w2c_p1 = w2c_j1;
+          w2c_i0 = w2c_j0 != w2c_j1;
+          if (w2c_i0) {goto w2c_L218;}
+        w2c_j0 = w2c_p2;
+        w2c_p1 = w2c_j0;
+        w2c_B217:;
+        w2c_j0 = w2c_p1;
+        w2c_j1 = 3ull;
+        w2c_j0 <<= (w2c_j1 & 63);
+      }
+      w2c_l4 = w2c_j0;
+      w2c_j0 = w2c_l6;
+      w2c_j1 = 2ull;
+      w2c_j0 += w2c_j1;
+      w2c_i0 = (u32)(w2c_j0);
+      w2c_i0 = i32_load16_u(&instance->w2c_memory, (u64)(w2c_i0));
+      w2c_i0 = !(w2c_i0);
+      if (w2c_i0) {goto w2c_B203;}
+      w2c_j0 = w2c_l4;
+      w2c_j1 = w2c_l6;
+      w2c_j0 += w2c_j1;
+      w2c_j1 = 968ull;
       w2c_j0 += w2c_j1;
       w2c_l9 = w2c_j0;
-      w2c_l4 = w2c_j0;
-      w2c_L204: 
-        w2c_j0 = w2c_l4;
-        w2c_i0 = (u32)(w2c_j0);
-        w2c_j0 = i64_load(&instance->w2c_memory, (u64)(w2c_i0));
-        w2c_l6 = w2c_j0;
-        w2c_i0 = (u32)(w2c_j0);
-        w2c_j0 = i64_load16_u(&instance->w2c_memory, (u64)(w2c_i0));
-        w2c_p2 = w2c_j0;
-        w2c_i0 = !(w2c_j0);
-        if (w2c_i0) {
-          w2c_j0 = 0ull;
-        } else {
-          w2c_j0 = w2c_l6;
-          w2c_j1 = 16ull;
-          w2c_j0 += w2c_j1;
-          w2c_l4 = w2c_j0;
-          w2c_j0 = w2c_l6;
-          w2c_j1 = 368ull;
-          w2c_j0 += w2c_j1;
-          w2c_l5 = w2c_j0;
-          w2c_j0 = 0ull;
-          w2c_p1 = w2c_j0;
-          w2c_L208: 
-            w2c_j0 = w2c_l4;
-            w2c_j1 = 8ull;
-            w2c_j0 -= w2c_j1;
-            w2c_i0 = (u32)(w2c_j0);
-            w2c_j0 = i64_load(&instance->w2c_memory, (u64)(w2c_i0));
-            w2c_l7 = w2c_j0;
-            w2c_j0 = w2c_l4;
-            w2c_i0 = (u32)(w2c_j0);
-            w2c_j0 = i64_load(&instance->w2c_memory, (u64)(w2c_i0));
-            w2c_l8 = w2c_j0;
-            w2c_j0 = w2c_l3;
-            w2c_i0 = (u32)(w2c_j0);
-            w2c_j1 = 4ull;
-            i64_store(&instance->w2c_memory, (u64)(w2c_i0) + 960, w2c_j1);
-            w2c_j0 = w2c_l3;
-            w2c_i0 = (u32)(w2c_j0);
-            w2c_j1 = 1059776ull;
-            i64_store(&instance->w2c_memory, (u64)(w2c_i0) + 952, w2c_j1);
-            w2c_j0 = w2c_l3;
-            w2c_i0 = (u32)(w2c_j0);
-            w2c_j1 = w2c_l8;
-            i64_store(&instance->w2c_memory, (u64)(w2c_i0) + 592, w2c_j1);
-            w2c_j0 = w2c_l3;
-            w2c_i0 = (u32)(w2c_j0);
-            w2c_j1 = w2c_l7;
-            i64_store(&instance->w2c_memory, (u64)(w2c_i0) + 584, w2c_j1);
-            w2c_j0 = w2c_l3;
-            w2c_j1 = 952ull;
-            w2c_j0 += w2c_j1;
-            w2c_j1 = w2c_l3;
-            w2c_j2 = 584ull;
-            w2c_j1 += w2c_j2;
-            w2c_i0 = w2c_f21(instance, w2c_j0, w2c_j1);
-            w2c_i1 = 255u;
-            w2c_i0 &= w2c_i1;
-            w2c_l41 = w2c_i0;
-            w2c_i1 = 2u;
-            w2c_i0 = w2c_i0 != w2c_i1;
-            if (w2c_i0) {
-              w2c_i0 = w2c_l41;
-              w2c_i1 = 1u;
-              w2c_i0 -= w2c_i1;
-              if (w2c_i0) {goto w2c_B207;}
-              goto w2c_B205;
-            }
-            w2c_j0 = w2c_l4;
-            w2c_j1 = 24ull;
-            w2c_j0 += w2c_j1;
-            w2c_l4 = w2c_j0;
-            w2c_j0 = w2c_l5;
-            w2c_j1 = 40ull;
-            w2c_j0 += w2c_j1;
-            w2c_l5 = w2c_j0;
-            w2c_j0 = w2c_p2;
-            w2c_j1 = w2c_p1;
-            w2c_j2 = 1ull;
-            w2c_j1 += w2c_j2;
-            w2c_p1 = w2c_j1;
-            w2c_i0 = w2c_j0 != w2c_j1;
-            if (w2c_i0) {goto w2c_L208;}
-          w2c_j0 = w2c_p2;
-          w2c_p1 = w2c_j0;
-          w2c_B207:;
-          w2c_j0 = w2c_p1;
-          w2c_j1 = 3ull;
-          w2c_j0 <<= (w2c_j1 & 63);
-        }
-        w2c_l4 = w2c_j0;
-        w2c_j0 = w2c_l6;
-        w2c_j1 = 2ull;
-        w2c_j0 += w2c_j1;
-        w2c_i0 = (u32)(w2c_j0);
-        w2c_i0 = i32_load16_u(&instance->w2c_memory, (u64)(w2c_i0));
-        w2c_i0 = !(w2c_i0);
-        if (w2c_i0) {goto w2c_B203;}
-        w2c_j0 = w2c_l4;
-        w2c_j1 = w2c_l6;
-        w2c_j0 += w2c_j1;
-        w2c_j1 = 968ull;
-        w2c_j0 += w2c_j1;
-        w2c_l4 = w2c_j0;
-        goto w2c_L204;
-        w2c_B205:;
+      goto w2c_L214;
+      w2c_B215:;
+    w2c_j0 = w2c_l5;
+    w2c_j1 = 8ull;
+    w2c_j0 -= w2c_j1;
+    w2c_i0 = (u32)(w2c_j0);
+    w2c_i0 = i32_load8_u(&instance->w2c_memory, (u64)(w2c_i0));
+    w2c_i1 = 1u;
+    w2c_i0 = w2c_i0 != w2c_i1;
+    if (w2c_i0) {
       w2c_i0 = 1u;
       w2c_l46 = w2c_i0;
-      w2c_j0 = w2c_l5;
-      w2c_i0 = (u32)(w2c_j0);
-      w2c_i0 = i32_load8_u(&instance->w2c_memory, (u64)(w2c_i0));
-      w2c_i1 = 5u;
-      w2c_i0 = w2c_i0 != w2c_i1;
-      if (w2c_i0) {goto w2c_B160;}
-      w2c_j0 = w2c_l5;
-      w2c_j1 = 16ull;
-      w2c_j0 += w2c_j1;
-      w2c_i0 = (u32)(w2c_j0);
-      w2c_j0 = i64_load(&instance->w2c_memory, (u64)(w2c_i0));
-      w2c_j1 = 2ull;
-      w2c_i0 = w2c_j0 != w2c_j1;
-      if (w2c_i0) {goto w2c_B160;}
-      w2c_j0 = w2c_l5;
-      w2c_j1 = 8ull;
-      w2c_j0 += w2c_j1;
-      w2c_i0 = (u32)(w2c_j0);
-      w2c_j0 = i64_load(&instance->w2c_memory, (u64)(w2c_i0));
-      w2c_l4 = w2c_j0;
-      w2c_i0 = (u32)(w2c_j0);
-      w2c_i0 = i32_load8_u(&instance->w2c_memory, (u64)(w2c_i0));
-      if (w2c_i0) {goto w2c_B160;}
-      w2c_j0 = w2c_l4;
-      w2c_j1 = 40ull;
-      w2c_j0 += w2c_j1;
-      w2c_i0 = (u32)(w2c_j0);
-      w2c_i0 = i32_load8_u(&instance->w2c_memory, (u64)(w2c_i0));
-      if (w2c_i0) {goto w2c_B160;}
-      w2c_B203:;
-      w2c_L210: 
-        w2c_j0 = w2c_l9;
-        w2c_i0 = (u32)(w2c_j0);
-        w2c_j0 = i64_load(&instance->w2c_memory, (u64)(w2c_i0));
-        w2c_l6 = w2c_j0;
-        w2c_i0 = (u32)(w2c_j0);
-        w2c_j0 = i64_load16_u(&instance->w2c_memory, (u64)(w2c_i0));
-        w2c_p2 = w2c_j0;
-        w2c_i0 = !(w2c_j0);
-        if (w2c_i0) {
-          w2c_j0 = 0ull;
-        } else {
-          w2c_j0 = w2c_l6;
-          w2c_j1 = 16ull;
-          w2c_j0 += w2c_j1;
-          w2c_l4 = w2c_j0;
-          w2c_j0 = w2c_l6;
-          w2c_j1 = 376ull;
-          w2c_j0 += w2c_j1;
-          w2c_l5 = w2c_j0;
-          w2c_j0 = 0ull;
-          w2c_p1 = w2c_j0;
-          w2c_L214: 
-            w2c_j0 = w2c_l4;
-            w2c_j1 = 8ull;
-            w2c_j0 -= w2c_j1;
-            w2c_i0 = (u32)(w2c_j0);
-            w2c_j0 = i64_load(&instance->w2c_memory, (u64)(w2c_i0));
-            w2c_l7 = w2c_j0;
-            w2c_j0 = w2c_l4;
-            w2c_i0 = (u32)(w2c_j0);
-            w2c_j0 = i64_load(&instance->w2c_memory, (u64)(w2c_i0));
-            w2c_l8 = w2c_j0;
-            w2c_j0 = w2c_l3;
-            w2c_i0 = (u32)(w2c_j0);
-            w2c_j1 = 5ull;
-            i64_store(&instance->w2c_memory, (u64)(w2c_i0) + 960, w2c_j1);
-            w2c_j0 = w2c_l3;
-            w2c_i0 = (u32)(w2c_j0);
-            w2c_j1 = 1059780ull;
-            i64_store(&instance->w2c_memory, (u64)(w2c_i0) + 952, w2c_j1);
-            w2c_j0 = w2c_l3;
-            w2c_i0 = (u32)(w2c_j0);
-            w2c_j1 = w2c_l8;
-            i64_store(&instance->w2c_memory, (u64)(w2c_i0) + 592, w2c_j1);
-            w2c_j0 = w2c_l3;
-            w2c_i0 = (u32)(w2c_j0);
-            w2c_j1 = w2c_l7;
-            i64_store(&instance->w2c_memory, (u64)(w2c_i0) + 584, w2c_j1);
-            w2c_j0 = w2c_l3;
-            w2c_j1 = 952ull;
-            w2c_j0 += w2c_j1;
-            w2c_j1 = w2c_l3;
-            w2c_j2 = 584ull;
-            w2c_j1 += w2c_j2;
-            w2c_i0 = w2c_f21(instance, w2c_j0, w2c_j1);
-            w2c_i1 = 255u;
-            w2c_i0 &= w2c_i1;
-            w2c_l41 = w2c_i0;
-            w2c_i1 = 2u;
-            w2c_i0 = w2c_i0 != w2c_i1;
-            if (w2c_i0) {
-              w2c_i0 = w2c_l41;
-              w2c_i1 = 1u;
-              w2c_i0 -= w2c_i1;
-              if (w2c_i0) {goto w2c_B213;}
-              goto w2c_B211;
-            }
-            w2c_j0 = w2c_l4;
-            w2c_j1 = 24ull;
-            w2c_j0 += w2c_j1;
-            w2c_l4 = w2c_j0;
-            w2c_j0 = w2c_l5;
-            w2c_j1 = 40ull;
-            w2c_j0 += w2c_j1;
-            w2c_l5 = w2c_j0;
-            w2c_j0 = w2c_p2;
-            w2c_j1 = w2c_p1;
-            w2c_j2 = 1ull;
-            w2c_j1 += w2c_j2;
-            w2c_p1 = w2c_j1;
-            w2c_i0 = w2c_j0 != w2c_j1;
-            if (w2c_i0) {goto w2c_L214;}
-          w2c_j0 = w2c_p2;
-          w2c_p1 = w2c_j0;
-          w2c_B213:;
-          w2c_j0 = w2c_p1;
-          w2c_j1 = 3ull;
-          w2c_j0 <<= (w2c_j1 & 63);
-        }
-        w2c_l4 = w2c_j0;
-        w2c_j0 = w2c_l6;
-        w2c_j1 = 2ull;
-        w2c_j0 += w2c_j1;
-        w2c_i0 = (u32)(w2c_j0);
-        w2c_i0 = i32_load16_u(&instance->w2c_memory, (u64)(w2c_i0));
-        w2c_i0 = !(w2c_i0);
-        if (w2c_i0) {goto w2c_B202;}
-        w2c_j0 = w2c_l4;
-        w2c_j1 = w2c_l6;
-        w2c_j0 += w2c_j1;
-        w2c_j1 = 968ull;
-        w2c_j0 += w2c_j1;
-        w2c_l9 = w2c_j0;
-        goto w2c_L210;
-        w2c_B211:;
-      w2c_i0 = 1u;
-      w2c_l46 = w2c_i0;
-      w2c_j0 = w2c_l5;
-      w2c_j1 = 8ull;
-      w2c_j0 -= w2c_j1;
-      w2c_i0 = (u32)(w2c_j0);
-      w2c_i0 = i32_load8_u(&instance->w2c_memory, (u64)(w2c_i0));
-      w2c_i1 = 1u;
-      w2c_i0 = w2c_i0 != w2c_i1;
-      if (w2c_i0) {goto w2c_B160;}
-      w2c_j0 = w2c_l5;
-      w2c_i0 = (u32)(w2c_j0);
-      w2c_j0 = i64_load(&instance->w2c_memory, (u64)(w2c_i0));
-      w2c_j1 = 0ull;
-      w2c_i0 = (u64)((s64)w2c_j0 < (s64)w2c_j1);
-      if (w2c_i0) {goto w2c_B160;}
-      w2c_B202:;
-      w2c_j0 = w2c_l11;
-      w2c_j1 = 40ull;
-      w2c_j0 += w2c_j1;
-      w2c_l11 = w2c_j0;
-      w2c_j0 = w2c_l10;
-      w2c_j1 = 1ull;
-      w2c_j0 -= w2c_j1;
-      w2c_l10 = w2c_j0;
-      w2c_j1 = 0ull;
-      w2c_i0 = w2c_j0 != w2c_j1;
-      if (w2c_i0) {goto w2c_L201;}
-  }
-  w2c_i0 = 0u;
-  w2c_l46 = w2c_i0;
+      goto w2c_B160;
+    }
+    w2c_j0 = w2c_l5;
+    w2c_i0 = (u32)(w2c_j0);
+    w2c_j0 = i64_load(&instance->w2c_memory, (u64)(w2c_i0));
+    w2c_j1 = 0ull;
+    w2c_i0 = (u64)((s64)w2c_j0 >= (s64)w2c_j1);
+    if (w2c_i0) {goto w2c_B203;}
+    w2c_i0 = 1u;
+    w2c_l46 = w2c_i0;
+    goto w2c_B160;
+    w2c_B203:;
+    w2c_j0 = w2c_l11;
+    w2c_j1 = 40ull;
+    w2c_j0 += w2c_j1;
+    w2c_l11 = w2c_j0;
+    w2c_j0 = w2c_l10;
+    w2c_j1 = 1ull;
+    w2c_j0 -= w2c_j1;
+    w2c_l10 = w2c_j0;
+    w2c_j1 = 0ull;
+    w2c_i0 = w2c_j0 != w2c_j1;
+    if (w2c_i0) {goto w2c_L202;}
   w2c_B160:;
   w2c_j0 = w2c_l3;
   w2c_i0 = (u32)(w2c_j0);
-  w2c_i0 = i32_load(&instance->w2c_memory, (u64)(w2c_i0) + 816u);
+  w2c_i0 = i32_load(&instance->w2c_memory, (u64)(w2c_i0) + 784u);
   w2c_l47 = w2c_i0;
   w2c_j0 = w2c_l3;
   w2c_i0 = (u32)(w2c_j0);
-  w2c_j0 = i64_load(&instance->w2c_memory, (u64)(w2c_i0) + 808u);
+  w2c_j0 = i64_load(&instance->w2c_memory, (u64)(w2c_i0) + 776u);
   w2c_l27 = w2c_j0;
   w2c_j0 = w2c_l3;
   w2c_i0 = (u32)(w2c_j0);
-  w2c_j0 = i64_load(&instance->w2c_memory, (u64)(w2c_i0) + 800u);
+  w2c_j0 = i64_load(&instance->w2c_memory, (u64)(w2c_i0) + 768u);
   w2c_l25 = w2c_j0;
   w2c_j0 = w2c_l3;
   w2c_i0 = (u32)(w2c_j0);
-  w2c_j0 = i64_load(&instance->w2c_memory, (u64)(w2c_i0) + 792u);
+  w2c_j0 = i64_load(&instance->w2c_memory, (u64)(w2c_i0) + 760u);
   w2c_l19 = w2c_j0;
   w2c_j0 = w2c_l3;
   w2c_i0 = (u32)(w2c_j0);
-  w2c_i0 = i32_load(&instance->w2c_memory, (u64)(w2c_i0) + 788u);
+  w2c_i0 = i32_load(&instance->w2c_memory, (u64)(w2c_i0) + 756u);
   w2c_l50 = w2c_i0;
   w2c_j0 = w2c_l3;
   w2c_i0 = (u32)(w2c_j0);
-  w2c_i0 = i32_load8_u(&instance->w2c_memory, (u64)(w2c_i0) + 785u);
+  w2c_i0 = i32_load8_u(&instance->w2c_memory, (u64)(w2c_i0) + 753u);
   w2c_l57 = w2c_i0;
   w2c_j0 = w2c_l3;
   w2c_i0 = (u32)(w2c_j0);
   w2c_j1 = 0ull;
-  i64_store(&instance->w2c_memory, (u64)(w2c_i0) + 920, w2c_j1);
-  w2c_j0 = w2c_l3;
-  w2c_i0 = (u32)(w2c_j0);
-  w2c_j1 = 0ull;
-  i64_store(&instance->w2c_memory, (u64)(w2c_i0) + 928, w2c_j1);
-  w2c_j0 = w2c_l3;
-  w2c_i0 = (u32)(w2c_j0);
-  w2c_j1 = 0ull;
-  i64_store(&instance->w2c_memory, (u64)(w2c_i0) + 936, w2c_j1);
-  w2c_j0 = w2c_l3;
-  w2c_i0 = (u32)(w2c_j0);
-  w2c_i1 = 0u;
-  i32_store(&instance->w2c_memory, (u64)(w2c_i0) + 944, w2c_i1);
-  w2c_j0 = w2c_l3;
-  w2c_i0 = (u32)(w2c_j0);
-  w2c_j1 = 0ull;
-  i64_store(&instance->w2c_memory, (u64)(w2c_i0) + 888, w2c_j1);
-  w2c_j0 = w2c_l3;
-  w2c_i0 = (u32)(w2c_j0);
-  w2c_j1 = 0ull;
-  i64_store(&instance->w2c_memory, (u64)(w2c_i0) + 896, w2c_j1);
-  w2c_j0 = w2c_l3;
-  w2c_i0 = (u32)(w2c_j0);
-  w2c_j1 = 0ull;
-  i64_store(&instance->w2c_memory, (u64)(w2c_i0) + 904, w2c_j1);
-  w2c_j0 = w2c_l3;
-  w2c_i0 = (u32)(w2c_j0);
-  w2c_j1 = 0ull;
-  i64_store(&instance->w2c_memory, (u64)(w2c_i0) + 911, w2c_j1);
+  i64_store(&instance->w2c_memory, (u64)(w2c_i0) + 856, w2c_j1);
   w2c_j0 = w2c_l3;
   w2c_i0 = (u32)(w2c_j0);
   w2c_j1 = 0ull;
@@ -10037,11 +10009,7 @@ static void w2c_f9(Z_dine_ffi_instance_t* instance, u64 w2c_p0, u64 w2c_p1, u64 
   w2c_j0 = w2c_l3;
   w2c_i0 = (u32)(w2c_j0);
   w2c_j1 = 0ull;
-  i64_store(&instance->w2c_memory, (u64)(w2c_i0) + 880, w2c_j1);
-  w2c_j0 = w2c_l3;
-  w2c_i0 = (u32)(w2c_j0);
-  w2c_j1 = 0ull;
-  i64_store(&instance->w2c_memory, (u64)(w2c_i0) + 824, w2c_j1);
+  i64_store(&instance->w2c_memory, (u64)(w2c_i0) + 879, w2c_j1);
   w2c_j0 = w2c_l3;
   w2c_i0 = (u32)(w2c_j0);
   w2c_j1 = 0ull;
@@ -10057,7 +10025,23 @@ static void w2c_f9(Z_dine_ffi_instance_t* instance, u64 w2c_p0, u64 w2c_p1, u64 
   w2c_j0 = w2c_l3;
   w2c_i0 = (u32)(w2c_j0);
   w2c_j1 = 0ull;
-  i64_store(&instance->w2c_memory, (u64)(w2c_i0) + 856, w2c_j1);
+  i64_store(&instance->w2c_memory, (u64)(w2c_i0) + 792, w2c_j1);
+  w2c_j0 = w2c_l3;
+  w2c_i0 = (u32)(w2c_j0);
+  w2c_j1 = 0ull;
+  i64_store(&instance->w2c_memory, (u64)(w2c_i0) + 800, w2c_j1);
+  w2c_j0 = w2c_l3;
+  w2c_i0 = (u32)(w2c_j0);
+  w2c_j1 = 0ull;
+  i64_store(&instance->w2c_memory, (u64)(w2c_i0) + 808, w2c_j1);
+  w2c_j0 = w2c_l3;
+  w2c_i0 = (u32)(w2c_j0);
+  w2c_j1 = 0ull;
+  i64_store(&instance->w2c_memory, (u64)(w2c_i0) + 816, w2c_j1);
+  w2c_j0 = w2c_l3;
+  w2c_i0 = (u32)(w2c_j0);
+  w2c_j1 = 0ull;
+  i64_store(&instance->w2c_memory, (u64)(w2c_i0) + 824, w2c_j1);
   w2c_i0 = w2c_l44;
   w2c_i1 = 6u;
   w2c_i0 = w2c_i0 != w2c_i1;
@@ -10070,7 +10054,7 @@ static void w2c_f9(Z_dine_ffi_instance_t* instance, u64 w2c_p0, u64 w2c_p1, u64 
     w2c_l41 = w2c_i0;
     w2c_i0 = 1u;
     w2c_l58 = w2c_i0;
-    goto w2c_B218;
+    goto w2c_B223;
   }
   w2c_j0 = w2c_l19;
   w2c_j1 = 255ull;
@@ -10082,11 +10066,11 @@ static void w2c_f9(Z_dine_ffi_instance_t* instance, u64 w2c_p0, u64 w2c_p1, u64 
     w2c_l41 = w2c_i0;
     w2c_i0 = 1u;
     w2c_l58 = w2c_i0;
-    goto w2c_B218;
+    goto w2c_B223;
   }
   w2c_j0 = w2c_l25;
   w2c_l6 = w2c_j0;
-  w2c_L222: 
+  w2c_L227: 
     w2c_j0 = 0ull;
     w2c_l13 = w2c_j0;
     w2c_j0 = 0ull;
@@ -10108,7 +10092,7 @@ static void w2c_f9(Z_dine_ffi_instance_t* instance, u64 w2c_p0, u64 w2c_p1, u64 
       w2c_l5 = w2c_j0;
       w2c_j0 = 0ull;
       w2c_p1 = w2c_j0;
-      w2c_L226: 
+      w2c_L231: 
         w2c_j0 = w2c_l4;
         w2c_j1 = 8ull;
         w2c_j0 -= w2c_j1;
@@ -10122,11 +10106,11 @@ static void w2c_f9(Z_dine_ffi_instance_t* instance, u64 w2c_p0, u64 w2c_p1, u64 
         w2c_j0 = w2c_l3;
         w2c_i0 = (u32)(w2c_j0);
         w2c_j1 = 4ull;
-        i64_store(&instance->w2c_memory, (u64)(w2c_i0) + 960, w2c_j1);
+        i64_store(&instance->w2c_memory, (u64)(w2c_i0) + 896, w2c_j1);
         w2c_j0 = w2c_l3;
         w2c_i0 = (u32)(w2c_j0);
         w2c_j1 = 1059624ull;
-        i64_store(&instance->w2c_memory, (u64)(w2c_i0) + 952, w2c_j1);
+        i64_store(&instance->w2c_memory, (u64)(w2c_i0) + 888, w2c_j1);
         w2c_j0 = w2c_l3;
         w2c_i0 = (u32)(w2c_j0);
         w2c_j1 = w2c_l8;
@@ -10136,7 +10120,7 @@ static void w2c_f9(Z_dine_ffi_instance_t* instance, u64 w2c_p0, u64 w2c_p1, u64 
         w2c_j1 = w2c_l7;
         i64_store(&instance->w2c_memory, (u64)(w2c_i0) + 584, w2c_j1);
         w2c_j0 = w2c_l3;
-        w2c_j1 = 952ull;
+        w2c_j1 = 888ull;
         w2c_j0 += w2c_j1;
         w2c_j1 = w2c_l3;
         w2c_j2 = 584ull;
@@ -10151,8 +10135,8 @@ static void w2c_f9(Z_dine_ffi_instance_t* instance, u64 w2c_p0, u64 w2c_p1, u64 
           w2c_i0 = w2c_l41;
           w2c_i1 = 1u;
           w2c_i0 -= w2c_i1;
-          if (w2c_i0) {goto w2c_B225;}
-          goto w2c_B223;
+          if (w2c_i0) {goto w2c_B230;}
+          goto w2c_B228;
         }
         w2c_j0 = w2c_l4;
         w2c_j1 = 24ull;
@@ -10168,17 +10152,17 @@ static void w2c_f9(Z_dine_ffi_instance_t* instance, u64 w2c_p0, u64 w2c_p1, u64 
         w2c_j1 += w2c_j2;
         w2c_p1 = w2c_j1;
         w2c_i0 = w2c_j0 != w2c_j1;
-        if (w2c_i0) {goto w2c_L226;}
+        if (w2c_i0) {goto w2c_L231;}
       w2c_j0 = w2c_p2;
       w2c_p1 = w2c_j0;
-      w2c_B225:;
+      w2c_B230:;
       w2c_j0 = w2c_p1;
       w2c_j1 = 3ull;
       w2c_j0 <<= (w2c_j1 & 63);
       w2c_l4 = w2c_j0;
     }
     w2c_j0 = w2c_l3;
-    w2c_j1 = 1384ull;
+    w2c_j1 = 1320ull;
     w2c_j0 += w2c_j1;
     w2c_j1 = w2c_l6;
     w2c_j2 = 2ull;
@@ -10186,7 +10170,7 @@ static void w2c_f9(Z_dine_ffi_instance_t* instance, u64 w2c_p0, u64 w2c_p1, u64 
     w2c_i1 = (u32)(w2c_j1);
     w2c_i1 = i32_load16_u(&instance->w2c_memory, (u64)(w2c_i1));
     w2c_i1 = !(w2c_i1);
-    if (w2c_i1) {goto w2c_B221;}
+    if (w2c_i1) {goto w2c_B226;}
     w2c_j0 = w2c_l4;
     w2c_j1 = w2c_l6;
     w2c_j0 += w2c_j1;
@@ -10195,10 +10179,10 @@ static void w2c_f9(Z_dine_ffi_instance_t* instance, u64 w2c_p0, u64 w2c_p1, u64 
     w2c_i0 = (u32)(w2c_j0);
     w2c_j0 = i64_load(&instance->w2c_memory, (u64)(w2c_i0));
     w2c_l6 = w2c_j0;
-    goto w2c_L222;
-    w2c_B223:;
+    goto w2c_L227;
+    w2c_B228:;
   w2c_j0 = w2c_l3;
-  w2c_j1 = 1384ull;
+  w2c_j1 = 1320ull;
   w2c_j0 += w2c_j1;
   w2c_j1 = w2c_l5;
   w2c_j2 = 16ull;
@@ -10207,7 +10191,7 @@ static void w2c_f9(Z_dine_ffi_instance_t* instance, u64 w2c_p0, u64 w2c_p1, u64 
   w2c_i1 = i32_load8_u(&instance->w2c_memory, (u64)(w2c_i1));
   w2c_i2 = 5u;
   w2c_i1 = w2c_i1 != w2c_i2;
-  if (w2c_i1) {goto w2c_B221;}
+  if (w2c_i1) {goto w2c_B226;}
   w2c_j0 = w2c_l5;
   w2c_i0 = (u32)(w2c_j0);
   w2c_j0 = i64_load(&instance->w2c_memory, (u64)(w2c_i0));
@@ -10217,11 +10201,11 @@ static void w2c_f9(Z_dine_ffi_instance_t* instance, u64 w2c_p0, u64 w2c_p1, u64 
   w2c_j0 -= w2c_j1;
   w2c_i0 = (u32)(w2c_j0);
   w2c_j0 = i64_load(&instance->w2c_memory, (u64)(w2c_i0));
-  w2c_B221:;
+  w2c_B226:;
   w2c_l20 = w2c_j0;
   w2c_j0 = w2c_l25;
   w2c_l6 = w2c_j0;
-  w2c_L229: 
+  w2c_L234: 
     w2c_j0 = w2c_l6;
     w2c_i0 = (u32)(w2c_j0);
     w2c_j0 = i64_load16_u(&instance->w2c_memory, (u64)(w2c_i0));
@@ -10240,7 +10224,7 @@ static void w2c_f9(Z_dine_ffi_instance_t* instance, u64 w2c_p0, u64 w2c_p1, u64 
       w2c_l5 = w2c_j0;
       w2c_j0 = 0ull;
       w2c_p1 = w2c_j0;
-      w2c_L233: 
+      w2c_L238: 
         w2c_j0 = w2c_l4;
         w2c_j1 = 8ull;
         w2c_j0 -= w2c_j1;
@@ -10254,11 +10238,11 @@ static void w2c_f9(Z_dine_ffi_instance_t* instance, u64 w2c_p0, u64 w2c_p1, u64 
         w2c_j0 = w2c_l3;
         w2c_i0 = (u32)(w2c_j0);
         w2c_j1 = 7ull;
-        i64_store(&instance->w2c_memory, (u64)(w2c_i0) + 960, w2c_j1);
+        i64_store(&instance->w2c_memory, (u64)(w2c_i0) + 896, w2c_j1);
         w2c_j0 = w2c_l3;
         w2c_i0 = (u32)(w2c_j0);
         w2c_j1 = 1059632ull;
-        i64_store(&instance->w2c_memory, (u64)(w2c_i0) + 952, w2c_j1);
+        i64_store(&instance->w2c_memory, (u64)(w2c_i0) + 888, w2c_j1);
         w2c_j0 = w2c_l3;
         w2c_i0 = (u32)(w2c_j0);
         w2c_j1 = w2c_l8;
@@ -10268,7 +10252,7 @@ static void w2c_f9(Z_dine_ffi_instance_t* instance, u64 w2c_p0, u64 w2c_p1, u64 
         w2c_j1 = w2c_l7;
         i64_store(&instance->w2c_memory, (u64)(w2c_i0) + 584, w2c_j1);
         w2c_j0 = w2c_l3;
-        w2c_j1 = 952ull;
+        w2c_j1 = 888ull;
         w2c_j0 += w2c_j1;
         w2c_j1 = w2c_l3;
         w2c_j2 = 584ull;
@@ -10283,8 +10267,8 @@ static void w2c_f9(Z_dine_ffi_instance_t* instance, u64 w2c_p0, u64 w2c_p1, u64 
           w2c_i0 = w2c_l41;
           w2c_i1 = 1u;
           w2c_i0 -= w2c_i1;
-          if (w2c_i0) {goto w2c_B232;}
-          goto w2c_B230;
+          if (w2c_i0) {goto w2c_B237;}
+          goto w2c_B235;
         }
         w2c_j0 = w2c_l4;
         w2c_j1 = 24ull;
@@ -10300,10 +10284,10 @@ static void w2c_f9(Z_dine_ffi_instance_t* instance, u64 w2c_p0, u64 w2c_p1, u64 
         w2c_j1 += w2c_j2;
         w2c_p1 = w2c_j1;
         w2c_i0 = w2c_j0 != w2c_j1;
-        if (w2c_i0) {goto w2c_L233;}
+        if (w2c_i0) {goto w2c_L238;}
       w2c_j0 = w2c_p2;
       w2c_p1 = w2c_j0;
-      w2c_B232:;
+      w2c_B237:;
       w2c_j0 = w2c_p1;
       w2c_j1 = 3ull;
       w2c_j0 <<= (w2c_j1 & 63);
@@ -10316,7 +10300,7 @@ static void w2c_f9(Z_dine_ffi_instance_t* instance, u64 w2c_p0, u64 w2c_p1, u64 
     w2c_i1 = (u32)(w2c_j1);
     w2c_i1 = i32_load16_u(&instance->w2c_memory, (u64)(w2c_i1));
     w2c_i1 = !(w2c_i1);
-    if (w2c_i1) {goto w2c_B228;}
+    if (w2c_i1) {goto w2c_B233;}
     w2c_j0 = w2c_l4;
     w2c_j1 = w2c_l6;
     w2c_j0 += w2c_j1;
@@ -10325,8 +10309,8 @@ static void w2c_f9(Z_dine_ffi_instance_t* instance, u64 w2c_p0, u64 w2c_p1, u64 
     w2c_i0 = (u32)(w2c_j0);
     w2c_j0 = i64_load(&instance->w2c_memory, (u64)(w2c_i0));
     w2c_l6 = w2c_j0;
-    goto w2c_L229;
-    w2c_B230:;
+    goto w2c_L234;
+    w2c_B235:;
   w2c_i0 = 1u;
   w2c_j1 = w2c_l5;
   w2c_j2 = 8ull;
@@ -10335,7 +10319,7 @@ static void w2c_f9(Z_dine_ffi_instance_t* instance, u64 w2c_p0, u64 w2c_p1, u64 
   w2c_i1 = i32_load8_u(&instance->w2c_memory, (u64)(w2c_i1));
   w2c_i2 = 1u;
   w2c_i1 = w2c_i1 != w2c_i2;
-  if (w2c_i1) {goto w2c_B228;}
+  if (w2c_i1) {goto w2c_B233;}
   w2c_i0 = 2u;
   w2c_i1 = 1u;
   w2c_j2 = w2c_l5;
@@ -10344,7 +10328,7 @@ static void w2c_f9(Z_dine_ffi_instance_t* instance, u64 w2c_p0, u64 w2c_p1, u64 
   w2c_j3 = 2ull;
   w2c_i2 = w2c_j2 == w2c_j3;
   w2c_i0 = w2c_i2 ? w2c_i0 : w2c_i1;
-  w2c_B228:;
+  w2c_B233:;
   w2c_l58 = w2c_i0;
   w2c_j0 = w2c_l13;
   w2c_i0 = !(w2c_j0);
@@ -10355,29 +10339,29 @@ static void w2c_f9(Z_dine_ffi_instance_t* instance, u64 w2c_p0, u64 w2c_p1, u64 
     w2c_l10 = w2c_j0;
     w2c_j0 = w2c_l13;
     w2c_l11 = w2c_j0;
-    w2c_L237: 
+    w2c_L242: 
       w2c_j0 = w2c_l3;
       w2c_i0 = (u32)(w2c_j0);
       w2c_j1 = 2ull;
-      i64_store(&instance->w2c_memory, (u64)(w2c_i0) + 1328, w2c_j1);
+      i64_store(&instance->w2c_memory, (u64)(w2c_i0) + 1264, w2c_j1);
       w2c_j0 = w2c_l3;
       w2c_i0 = (u32)(w2c_j0);
       w2c_j1 = 1059785ull;
-      i64_store(&instance->w2c_memory, (u64)(w2c_i0) + 1320, w2c_j1);
+      i64_store(&instance->w2c_memory, (u64)(w2c_i0) + 1256, w2c_j1);
       w2c_j0 = w2c_l3;
       w2c_i0 = (u32)(w2c_j0);
       w2c_j1 = 6ull;
-      i64_store(&instance->w2c_memory, (u64)(w2c_i0) + 1288, w2c_j1);
+      i64_store(&instance->w2c_memory, (u64)(w2c_i0) + 1224, w2c_j1);
       w2c_j0 = w2c_l3;
       w2c_i0 = (u32)(w2c_j0);
       w2c_j1 = 1059787ull;
-      i64_store(&instance->w2c_memory, (u64)(w2c_i0) + 1280, w2c_j1);
+      i64_store(&instance->w2c_memory, (u64)(w2c_i0) + 1216, w2c_j1);
       w2c_j0 = w2c_l10;
       w2c_i0 = (u32)(w2c_j0);
       w2c_i0 = i32_load8_u(&instance->w2c_memory, (u64)(w2c_i0));
       w2c_i1 = 6u;
       w2c_i0 = w2c_i0 != w2c_i1;
-      if (w2c_i0) {goto w2c_B238;}
+      if (w2c_i0) {goto w2c_B243;}
       w2c_j0 = w2c_l10;
       w2c_j1 = 8ull;
       w2c_j0 += w2c_j1;
@@ -10385,13 +10369,13 @@ static void w2c_f9(Z_dine_ffi_instance_t* instance, u64 w2c_p0, u64 w2c_p1, u64 
       w2c_i0 = i32_load8_u(&instance->w2c_memory, (u64)(w2c_i0));
       w2c_i1 = 1u;
       w2c_i0 = w2c_i0 != w2c_i1;
-      if (w2c_i0) {goto w2c_B238;}
+      if (w2c_i0) {goto w2c_B243;}
       w2c_j0 = w2c_l10;
       w2c_j1 = 16ull;
       w2c_j0 += w2c_j1;
       w2c_l9 = w2c_j0;
       w2c_p1 = w2c_j0;
-      w2c_L240: 
+      w2c_L245: 
         w2c_j0 = 0ull;
         w2c_l14 = w2c_j0;
         w2c_j0 = 0ull;
@@ -10416,7 +10400,7 @@ static void w2c_f9(Z_dine_ffi_instance_t* instance, u64 w2c_p0, u64 w2c_p1, u64 
           w2c_l5 = w2c_j0;
           w2c_j0 = 0ull;
           w2c_p1 = w2c_j0;
-          w2c_L244: 
+          w2c_L249: 
             w2c_j0 = w2c_l4;
             w2c_j1 = 8ull;
             w2c_j0 -= w2c_j1;
@@ -10430,11 +10414,11 @@ static void w2c_f9(Z_dine_ffi_instance_t* instance, u64 w2c_p0, u64 w2c_p1, u64 
             w2c_j0 = w2c_l3;
             w2c_i0 = (u32)(w2c_j0);
             w2c_j1 = 8ull;
-            i64_store(&instance->w2c_memory, (u64)(w2c_i0) + 960, w2c_j1);
+            i64_store(&instance->w2c_memory, (u64)(w2c_i0) + 896, w2c_j1);
             w2c_j0 = w2c_l3;
             w2c_i0 = (u32)(w2c_j0);
             w2c_j1 = 1059793ull;
-            i64_store(&instance->w2c_memory, (u64)(w2c_i0) + 952, w2c_j1);
+            i64_store(&instance->w2c_memory, (u64)(w2c_i0) + 888, w2c_j1);
             w2c_j0 = w2c_l3;
             w2c_i0 = (u32)(w2c_j0);
             w2c_j1 = w2c_l8;
@@ -10444,7 +10428,7 @@ static void w2c_f9(Z_dine_ffi_instance_t* instance, u64 w2c_p0, u64 w2c_p1, u64 
             w2c_j1 = w2c_l7;
             i64_store(&instance->w2c_memory, (u64)(w2c_i0) + 584, w2c_j1);
             w2c_j0 = w2c_l3;
-            w2c_j1 = 952ull;
+            w2c_j1 = 888ull;
             w2c_j0 += w2c_j1;
             w2c_j1 = w2c_l3;
             w2c_j2 = 584ull;
@@ -10459,8 +10443,8 @@ static void w2c_f9(Z_dine_ffi_instance_t* instance, u64 w2c_p0, u64 w2c_p1, u64 
               w2c_i0 = w2c_l41;
               w2c_i1 = 1u;
               w2c_i0 -= w2c_i1;
-              if (w2c_i0) {goto w2c_B243;}
-              goto w2c_B241;
+              if (w2c_i0) {goto w2c_B248;}
+              goto w2c_B246;
             }
             w2c_j0 = w2c_l4;
             w2c_j1 = 24ull;
@@ -10476,10 +10460,10 @@ static void w2c_f9(Z_dine_ffi_instance_t* instance, u64 w2c_p0, u64 w2c_p1, u64 
             w2c_j1 += w2c_j2;
             w2c_p1 = w2c_j1;
             w2c_i0 = w2c_j0 != w2c_j1;
-            if (w2c_i0) {goto w2c_L244;}
+            if (w2c_i0) {goto w2c_L249;}
           w2c_j0 = w2c_p2;
           w2c_p1 = w2c_j0;
-          w2c_B243:;
+          w2c_B248:;
           w2c_j0 = w2c_p1;
           w2c_j1 = 3ull;
           w2c_j0 <<= (w2c_j1 & 63);
@@ -10492,22 +10476,22 @@ static void w2c_f9(Z_dine_ffi_instance_t* instance, u64 w2c_p0, u64 w2c_p1, u64 
         w2c_i1 = (u32)(w2c_j1);
         w2c_i1 = i32_load16_u(&instance->w2c_memory, (u64)(w2c_i1));
         w2c_i1 = !(w2c_i1);
-        if (w2c_i1) {goto w2c_B239;}
+        if (w2c_i1) {goto w2c_B244;}
         w2c_j0 = w2c_l4;
         w2c_j1 = w2c_l6;
         w2c_j0 += w2c_j1;
         w2c_j1 = 968ull;
         w2c_j0 += w2c_j1;
         w2c_p1 = w2c_j0;
-        goto w2c_L240;
-        w2c_B241:;
+        goto w2c_L245;
+        w2c_B246:;
       w2c_j0 = 1048585ull;
       w2c_j1 = w2c_l5;
       w2c_j2 = 16ull;
       w2c_j1 -= w2c_j2;
       w2c_i1 = (u32)(w2c_j1);
       w2c_i1 = i32_load8_u(&instance->w2c_memory, (u64)(w2c_i1));
-      if (w2c_i1) {goto w2c_B239;}
+      if (w2c_i1) {goto w2c_B244;}
       w2c_j0 = w2c_l5;
       w2c_i0 = (u32)(w2c_j0);
       w2c_j0 = i64_load(&instance->w2c_memory, (u64)(w2c_i0));
@@ -10517,7 +10501,7 @@ static void w2c_f9(Z_dine_ffi_instance_t* instance, u64 w2c_p0, u64 w2c_p1, u64 
       w2c_j0 -= w2c_j1;
       w2c_i0 = (u32)(w2c_j0);
       w2c_j0 = i64_load(&instance->w2c_memory, (u64)(w2c_i0));
-      w2c_B239:;
+      w2c_B244:;
       w2c_l4 = w2c_j0;
       w2c_j0 = w2c_l3;
       w2c_i0 = (u32)(w2c_j0);
@@ -10527,7 +10511,7 @@ static void w2c_f9(Z_dine_ffi_instance_t* instance, u64 w2c_p0, u64 w2c_p1, u64 
       w2c_i0 = (u32)(w2c_j0);
       w2c_j1 = w2c_l4;
       i64_store(&instance->w2c_memory, (u64)(w2c_i0) + 520, w2c_j1);
-      w2c_L246: 
+      w2c_L251: 
         w2c_j0 = w2c_l9;
         w2c_i0 = (u32)(w2c_j0);
         w2c_j0 = i64_load(&instance->w2c_memory, (u64)(w2c_i0));
@@ -10545,7 +10529,7 @@ static void w2c_f9(Z_dine_ffi_instance_t* instance, u64 w2c_p0, u64 w2c_p1, u64 
           w2c_l4 = w2c_j0;
           w2c_j0 = 0ull;
           w2c_p1 = w2c_j0;
-          w2c_L250: 
+          w2c_L255: 
             w2c_j0 = w2c_l4;
             w2c_j1 = 8ull;
             w2c_j0 -= w2c_j1;
@@ -10559,11 +10543,11 @@ static void w2c_f9(Z_dine_ffi_instance_t* instance, u64 w2c_p0, u64 w2c_p1, u64 
             w2c_j0 = w2c_l3;
             w2c_i0 = (u32)(w2c_j0);
             w2c_j1 = 8ull;
-            i64_store(&instance->w2c_memory, (u64)(w2c_i0) + 960, w2c_j1);
+            i64_store(&instance->w2c_memory, (u64)(w2c_i0) + 896, w2c_j1);
             w2c_j0 = w2c_l3;
             w2c_i0 = (u32)(w2c_j0);
             w2c_j1 = 1059793ull;
-            i64_store(&instance->w2c_memory, (u64)(w2c_i0) + 952, w2c_j1);
+            i64_store(&instance->w2c_memory, (u64)(w2c_i0) + 888, w2c_j1);
             w2c_j0 = w2c_l3;
             w2c_i0 = (u32)(w2c_j0);
             w2c_j1 = w2c_l7;
@@ -10573,7 +10557,7 @@ static void w2c_f9(Z_dine_ffi_instance_t* instance, u64 w2c_p0, u64 w2c_p1, u64 
             w2c_j1 = w2c_l5;
             i64_store(&instance->w2c_memory, (u64)(w2c_i0) + 584, w2c_j1);
             w2c_j0 = w2c_l3;
-            w2c_j1 = 952ull;
+            w2c_j1 = 888ull;
             w2c_j0 += w2c_j1;
             w2c_j1 = w2c_l3;
             w2c_j2 = 584ull;
@@ -10588,8 +10572,8 @@ static void w2c_f9(Z_dine_ffi_instance_t* instance, u64 w2c_p0, u64 w2c_p1, u64 
               w2c_i0 = w2c_l41;
               w2c_i1 = 1u;
               w2c_i0 -= w2c_i1;
-              if (w2c_i0) {goto w2c_B249;}
-              goto w2c_B247;
+              if (w2c_i0) {goto w2c_B254;}
+              goto w2c_B252;
             }
             w2c_j0 = w2c_l4;
             w2c_j1 = 24ull;
@@ -10601,10 +10585,10 @@ static void w2c_f9(Z_dine_ffi_instance_t* instance, u64 w2c_p0, u64 w2c_p1, u64 
             w2c_j1 += w2c_j2;
             w2c_p1 = w2c_j1;
             w2c_i0 = w2c_j0 != w2c_j1;
-            if (w2c_i0) {goto w2c_L250;}
+            if (w2c_i0) {goto w2c_L255;}
           w2c_j0 = w2c_l8;
           w2c_p1 = w2c_j0;
-          w2c_B249:;
+          w2c_B254:;
           w2c_j0 = w2c_p1;
           w2c_j1 = 3ull;
           w2c_j0 <<= (w2c_j1 & 63);
@@ -10616,34 +10600,34 @@ static void w2c_f9(Z_dine_ffi_instance_t* instance, u64 w2c_p0, u64 w2c_p1, u64 
         w2c_i0 = (u32)(w2c_j0);
         w2c_i0 = i32_load16_u(&instance->w2c_memory, (u64)(w2c_i0));
         w2c_i0 = !(w2c_i0);
-        if (w2c_i0) {goto w2c_B238;}
+        if (w2c_i0) {goto w2c_B243;}
         w2c_j0 = w2c_p2;
         w2c_j1 = w2c_l4;
         w2c_j0 += w2c_j1;
         w2c_j1 = 968ull;
         w2c_j0 += w2c_j1;
         w2c_l9 = w2c_j0;
-        goto w2c_L246;
-        w2c_B247:;
+        goto w2c_L251;
+        w2c_B252:;
       w2c_j0 = w2c_l3;
       w2c_j1 = 520ull;
       w2c_j0 += w2c_j1;
       w2c_j1 = w2c_l3;
-      w2c_j2 = 1320ull;
+      w2c_j2 = 1256ull;
       w2c_j1 += w2c_j2;
       w2c_i0 = w2c_f24(instance, w2c_j0, w2c_j1);
-      if (w2c_i0) {goto w2c_B238;}
+      if (w2c_i0) {goto w2c_B243;}
       w2c_j0 = w2c_l3;
       w2c_j1 = 520ull;
       w2c_j0 += w2c_j1;
       w2c_j1 = w2c_l3;
-      w2c_j2 = 1280ull;
+      w2c_j2 = 1216ull;
       w2c_j1 += w2c_j2;
       w2c_i0 = w2c_f24(instance, w2c_j0, w2c_j1);
-      if (w2c_i0) {goto w2c_B238;}
+      if (w2c_i0) {goto w2c_B243;}
       w2c_i0 = 1u;
-      goto w2c_B235;
-      w2c_B238:;
+      goto w2c_B240;
+      w2c_B243:;
       w2c_j0 = w2c_l10;
       w2c_j1 = 40ull;
       w2c_j0 += w2c_j1;
@@ -10658,16 +10642,16 @@ static void w2c_f9(Z_dine_ffi_instance_t* instance, u64 w2c_p0, u64 w2c_p1, u64 
       w2c_l11 = w2c_j0;
       w2c_j1 = 0ull;
       w2c_i0 = w2c_j0 != w2c_j1;
-      if (w2c_i0) {goto w2c_L237;}
+      if (w2c_i0) {goto w2c_L242;}
   }
   w2c_i0 = 0u;
   w2c_l59 = w2c_i0;
   w2c_i0 = 0u;
-  w2c_B235:;
+  w2c_B240:;
   w2c_l66 = w2c_i0;
   w2c_j0 = w2c_l25;
   w2c_l6 = w2c_j0;
-  w2c_L259: 
+  w2c_L264: 
     w2c_j0 = w2c_l6;
     w2c_i0 = (u32)(w2c_j0);
     w2c_j0 = i64_load16_u(&instance->w2c_memory, (u64)(w2c_i0));
@@ -10686,7 +10670,7 @@ static void w2c_f9(Z_dine_ffi_instance_t* instance, u64 w2c_p0, u64 w2c_p1, u64 
       w2c_l5 = w2c_j0;
       w2c_j0 = 0ull;
       w2c_p1 = w2c_j0;
-      w2c_L263: 
+      w2c_L268: 
         w2c_j0 = w2c_l4;
         w2c_j1 = 8ull;
         w2c_j0 -= w2c_j1;
@@ -10700,11 +10684,11 @@ static void w2c_f9(Z_dine_ffi_instance_t* instance, u64 w2c_p0, u64 w2c_p1, u64 
         w2c_j0 = w2c_l3;
         w2c_i0 = (u32)(w2c_j0);
         w2c_j1 = 4ull;
-        i64_store(&instance->w2c_memory, (u64)(w2c_i0) + 960, w2c_j1);
+        i64_store(&instance->w2c_memory, (u64)(w2c_i0) + 896, w2c_j1);
         w2c_j0 = w2c_l3;
         w2c_i0 = (u32)(w2c_j0);
         w2c_j1 = 1059628ull;
-        i64_store(&instance->w2c_memory, (u64)(w2c_i0) + 952, w2c_j1);
+        i64_store(&instance->w2c_memory, (u64)(w2c_i0) + 888, w2c_j1);
         w2c_j0 = w2c_l3;
         w2c_i0 = (u32)(w2c_j0);
         w2c_j1 = w2c_l8;
@@ -10714,7 +10698,7 @@ static void w2c_f9(Z_dine_ffi_instance_t* instance, u64 w2c_p0, u64 w2c_p1, u64 
         w2c_j1 = w2c_l7;
         i64_store(&instance->w2c_memory, (u64)(w2c_i0) + 584, w2c_j1);
         w2c_j0 = w2c_l3;
-        w2c_j1 = 952ull;
+        w2c_j1 = 888ull;
         w2c_j0 += w2c_j1;
         w2c_j1 = w2c_l3;
         w2c_j2 = 584ull;
@@ -10729,8 +10713,8 @@ static void w2c_f9(Z_dine_ffi_instance_t* instance, u64 w2c_p0, u64 w2c_p1, u64 
           w2c_i0 = w2c_l41;
           w2c_i1 = 1u;
           w2c_i0 -= w2c_i1;
-          if (w2c_i0) {goto w2c_B262;}
-          goto w2c_B260;
+          if (w2c_i0) {goto w2c_B267;}
+          goto w2c_B265;
         }
         w2c_j0 = w2c_l4;
         w2c_j1 = 24ull;
@@ -10746,10 +10730,10 @@ static void w2c_f9(Z_dine_ffi_instance_t* instance, u64 w2c_p0, u64 w2c_p1, u64 
         w2c_j1 += w2c_j2;
         w2c_p1 = w2c_j1;
         w2c_i0 = w2c_j0 != w2c_j1;
-        if (w2c_i0) {goto w2c_L263;}
+        if (w2c_i0) {goto w2c_L268;}
       w2c_j0 = w2c_p2;
       w2c_p1 = w2c_j0;
-      w2c_B262:;
+      w2c_B267:;
       w2c_j0 = w2c_p1;
       w2c_j1 = 3ull;
       w2c_j0 <<= (w2c_j1 & 63);
@@ -10761,7 +10745,7 @@ static void w2c_f9(Z_dine_ffi_instance_t* instance, u64 w2c_p0, u64 w2c_p1, u64 
     w2c_i0 = (u32)(w2c_j0);
     w2c_i0 = i32_load16_u(&instance->w2c_memory, (u64)(w2c_i0));
     w2c_i0 = !(w2c_i0);
-    if (w2c_i0) {goto w2c_B258;}
+    if (w2c_i0) {goto w2c_B263;}
     w2c_j0 = w2c_l4;
     w2c_j1 = w2c_l6;
     w2c_j0 += w2c_j1;
@@ -10770,8 +10754,8 @@ static void w2c_f9(Z_dine_ffi_instance_t* instance, u64 w2c_p0, u64 w2c_p1, u64 
     w2c_i0 = (u32)(w2c_j0);
     w2c_j0 = i64_load(&instance->w2c_memory, (u64)(w2c_i0));
     w2c_l6 = w2c_j0;
-    goto w2c_L259;
-    w2c_B260:;
+    goto w2c_L264;
+    w2c_B265:;
   w2c_j0 = w2c_l5;
   w2c_j1 = 16ull;
   w2c_j0 -= w2c_j1;
@@ -10779,7 +10763,7 @@ static void w2c_f9(Z_dine_ffi_instance_t* instance, u64 w2c_p0, u64 w2c_p1, u64 
   w2c_i0 = i32_load8_u(&instance->w2c_memory, (u64)(w2c_i0));
   w2c_i1 = 5u;
   w2c_i0 = w2c_i0 != w2c_i1;
-  if (w2c_i0) {goto w2c_B258;}
+  if (w2c_i0) {goto w2c_B263;}
   w2c_j0 = w2c_l5;
   w2c_j1 = 8ull;
   w2c_j0 -= w2c_j1;
@@ -10807,13 +10791,13 @@ static void w2c_f9(Z_dine_ffi_instance_t* instance, u64 w2c_p0, u64 w2c_p1, u64 
   w2c_j0 = w2c_l3;
   w2c_i0 = (u32)(w2c_j0);
   w2c_j1 = 0ull;
-  i64_store(&instance->w2c_memory, (u64)(w2c_i0) + 1280, w2c_j1);
+  i64_store(&instance->w2c_memory, (u64)(w2c_i0) + 1216, w2c_j1);
   w2c_i0 = w2c_l43;
   w2c_i0 = !(w2c_i0);
-  if (w2c_i0) {goto w2c_B257;}
+  if (w2c_i0) {goto w2c_B262;}
   w2c_i0 = 1u;
-  goto w2c_B256;
-  w2c_B258:;
+  goto w2c_B261;
+  w2c_B263:;
   w2c_j0 = 0ull;
   w2c_l28 = w2c_j0;
   w2c_j0 = w2c_l3;
@@ -10831,31 +10815,31 @@ static void w2c_f9(Z_dine_ffi_instance_t* instance, u64 w2c_p0, u64 w2c_p1, u64 
   w2c_j0 = w2c_l3;
   w2c_i0 = (u32)(w2c_j0);
   w2c_j1 = 0ull;
-  i64_store(&instance->w2c_memory, (u64)(w2c_i0) + 1280, w2c_j1);
+  i64_store(&instance->w2c_memory, (u64)(w2c_i0) + 1216, w2c_j1);
   w2c_j0 = w2c_l3;
-  w2c_j1 = 1384ull;
+  w2c_j1 = 1320ull;
   w2c_j0 += w2c_j1;
   w2c_l29 = w2c_j0;
   w2c_i0 = w2c_l43;
   w2c_i0 = !(w2c_i0);
-  if (w2c_i0) {goto w2c_B257;}
+  if (w2c_i0) {goto w2c_B262;}
   w2c_i0 = 1u;
   w2c_l41 = w2c_i0;
-  goto w2c_B218;
-  w2c_B257:;
+  goto w2c_B223;
+  w2c_B262:;
   w2c_j0 = w2c_l3;
-  w2c_j1 = 948ull;
+  w2c_j1 = 884ull;
   w2c_j0 += w2c_j1;
   w2c_l35 = w2c_j0;
   w2c_j0 = w2c_l3;
-  w2c_j1 = 976ull;
+  w2c_j1 = 912ull;
   w2c_j0 += w2c_j1;
   w2c_l33 = w2c_j0;
   w2c_j0 = 0ull;
   w2c_l14 = w2c_j0;
   w2c_i0 = 0u;
   w2c_l43 = w2c_i0;
-  w2c_L265: 
+  w2c_L270: 
     w2c_j0 = 1048585ull;
     w2c_p2 = w2c_j0;
     w2c_j0 = w2c_l20;
@@ -10871,7 +10855,7 @@ static void w2c_f9(Z_dine_ffi_instance_t* instance, u64 w2c_p0, u64 w2c_p1, u64 
     if (w2c_i0) {
       w2c_j0 = 0ull;
       w2c_l8 = w2c_j0;
-      goto w2c_B266;
+      goto w2c_B271;
     }
     w2c_j0 = w2c_l4;
     w2c_j1 = 8ull;
@@ -10883,13 +10867,13 @@ static void w2c_f9(Z_dine_ffi_instance_t* instance, u64 w2c_p0, u64 w2c_p1, u64 
     if (w2c_i0) {
       w2c_j0 = 0ull;
       w2c_l8 = w2c_j0;
-      goto w2c_B266;
+      goto w2c_B271;
     }
     w2c_j0 = w2c_l4;
     w2c_j1 = 16ull;
     w2c_j0 += w2c_j1;
     w2c_p1 = w2c_j0;
-    w2c_L269: 
+    w2c_L274: 
       w2c_j0 = 0ull;
       w2c_l8 = w2c_j0;
       w2c_j0 = 0ull;
@@ -10914,7 +10898,7 @@ static void w2c_f9(Z_dine_ffi_instance_t* instance, u64 w2c_p0, u64 w2c_p1, u64 
         w2c_l5 = w2c_j0;
         w2c_j0 = 0ull;
         w2c_p1 = w2c_j0;
-        w2c_L273: 
+        w2c_L278: 
           w2c_j0 = w2c_l4;
           w2c_j1 = 8ull;
           w2c_j0 -= w2c_j1;
@@ -10928,11 +10912,11 @@ static void w2c_f9(Z_dine_ffi_instance_t* instance, u64 w2c_p0, u64 w2c_p1, u64 
           w2c_j0 = w2c_l3;
           w2c_i0 = (u32)(w2c_j0);
           w2c_j1 = 4ull;
-          i64_store(&instance->w2c_memory, (u64)(w2c_i0) + 960, w2c_j1);
+          i64_store(&instance->w2c_memory, (u64)(w2c_i0) + 896, w2c_j1);
           w2c_j0 = w2c_l3;
           w2c_i0 = (u32)(w2c_j0);
           w2c_j1 = 1059801ull;
-          i64_store(&instance->w2c_memory, (u64)(w2c_i0) + 952, w2c_j1);
+          i64_store(&instance->w2c_memory, (u64)(w2c_i0) + 888, w2c_j1);
           w2c_j0 = w2c_l3;
           w2c_i0 = (u32)(w2c_j0);
           w2c_j1 = w2c_l6;
@@ -10942,7 +10926,7 @@ static void w2c_f9(Z_dine_ffi_instance_t* instance, u64 w2c_p0, u64 w2c_p1, u64 
           w2c_j1 = w2c_l7;
           i64_store(&instance->w2c_memory, (u64)(w2c_i0) + 520, w2c_j1);
           w2c_j0 = w2c_l3;
-          w2c_j1 = 952ull;
+          w2c_j1 = 888ull;
           w2c_j0 += w2c_j1;
           w2c_j1 = w2c_l3;
           w2c_j2 = 520ull;
@@ -10957,8 +10941,8 @@ static void w2c_f9(Z_dine_ffi_instance_t* instance, u64 w2c_p0, u64 w2c_p1, u64 
             w2c_i0 = w2c_l41;
             w2c_i1 = 1u;
             w2c_i0 -= w2c_i1;
-            if (w2c_i0) {goto w2c_B272;}
-            goto w2c_B270;
+            if (w2c_i0) {goto w2c_B277;}
+            goto w2c_B275;
           }
           w2c_j0 = w2c_l4;
           w2c_j1 = 24ull;
@@ -10974,10 +10958,10 @@ static void w2c_f9(Z_dine_ffi_instance_t* instance, u64 w2c_p0, u64 w2c_p1, u64 
           w2c_j1 += w2c_j2;
           w2c_p1 = w2c_j1;
           w2c_i0 = w2c_j0 != w2c_j1;
-          if (w2c_i0) {goto w2c_L273;}
+          if (w2c_i0) {goto w2c_L278;}
         w2c_j0 = w2c_l10;
         w2c_p1 = w2c_j0;
-        w2c_B272:;
+        w2c_B277:;
         w2c_j0 = w2c_p1;
         w2c_j1 = 3ull;
         w2c_j0 <<= (w2c_j1 & 63);
@@ -10989,21 +10973,21 @@ static void w2c_f9(Z_dine_ffi_instance_t* instance, u64 w2c_p0, u64 w2c_p1, u64 
       w2c_i0 = (u32)(w2c_j0);
       w2c_i0 = i32_load16_u(&instance->w2c_memory, (u64)(w2c_i0));
       w2c_i0 = !(w2c_i0);
-      if (w2c_i0) {goto w2c_B266;}
+      if (w2c_i0) {goto w2c_B271;}
       w2c_j0 = w2c_l4;
       w2c_j1 = w2c_l9;
       w2c_j0 += w2c_j1;
       w2c_j1 = 968ull;
       w2c_j0 += w2c_j1;
       w2c_p1 = w2c_j0;
-      goto w2c_L269;
-      w2c_B270:;
+      goto w2c_L274;
+      w2c_B275:;
     w2c_j0 = w2c_l5;
     w2c_j1 = 16ull;
     w2c_j0 -= w2c_j1;
     w2c_i0 = (u32)(w2c_j0);
     w2c_i0 = i32_load8_u(&instance->w2c_memory, (u64)(w2c_i0));
-    if (w2c_i0) {goto w2c_B266;}
+    if (w2c_i0) {goto w2c_B271;}
     w2c_j0 = w2c_l5;
     w2c_j1 = 8ull;
     w2c_j0 -= w2c_j1;
@@ -11014,16 +10998,16 @@ static void w2c_f9(Z_dine_ffi_instance_t* instance, u64 w2c_p0, u64 w2c_p1, u64 
     w2c_i0 = (u32)(w2c_j0);
     w2c_j0 = i64_load(&instance->w2c_memory, (u64)(w2c_i0));
     w2c_l8 = w2c_j0;
-    w2c_B266:;
+    w2c_B271:;
     w2c_i0 = w2c_l43;
     w2c_i1 = 1u;
     w2c_i0 &= w2c_i1;
     if (w2c_i0) {
       w2c_j0 = w2c_l3;
-      w2c_j1 = 1280ull;
+      w2c_j1 = 1216ull;
       w2c_j0 += w2c_j1;
       w2c_l4 = w2c_j0;
-      w2c_L278: 
+      w2c_L283: 
         w2c_j0 = w2c_l4;
         w2c_i0 = (u32)(w2c_j0);
         w2c_j0 = i64_load(&instance->w2c_memory, (u64)(w2c_i0));
@@ -11041,7 +11025,7 @@ static void w2c_f9(Z_dine_ffi_instance_t* instance, u64 w2c_p0, u64 w2c_p1, u64 
           w2c_l4 = w2c_j0;
           w2c_j0 = 0ull;
           w2c_p1 = w2c_j0;
-          w2c_L281: 
+          w2c_L286: 
             w2c_j0 = w2c_l4;
             w2c_j1 = 8ull;
             w2c_j0 -= w2c_j1;
@@ -11055,11 +11039,11 @@ static void w2c_f9(Z_dine_ffi_instance_t* instance, u64 w2c_p0, u64 w2c_p1, u64 
             w2c_j0 = w2c_l3;
             w2c_i0 = (u32)(w2c_j0);
             w2c_j1 = w2c_l8;
-            i64_store(&instance->w2c_memory, (u64)(w2c_i0) + 960, w2c_j1);
+            i64_store(&instance->w2c_memory, (u64)(w2c_i0) + 896, w2c_j1);
             w2c_j0 = w2c_l3;
             w2c_i0 = (u32)(w2c_j0);
             w2c_j1 = w2c_p2;
-            i64_store(&instance->w2c_memory, (u64)(w2c_i0) + 952, w2c_j1);
+            i64_store(&instance->w2c_memory, (u64)(w2c_i0) + 888, w2c_j1);
             w2c_j0 = w2c_l3;
             w2c_i0 = (u32)(w2c_j0);
             w2c_j1 = w2c_l7;
@@ -11069,7 +11053,7 @@ static void w2c_f9(Z_dine_ffi_instance_t* instance, u64 w2c_p0, u64 w2c_p1, u64 
             w2c_j1 = w2c_l5;
             i64_store(&instance->w2c_memory, (u64)(w2c_i0) + 520, w2c_j1);
             w2c_j0 = w2c_l3;
-            w2c_j1 = 952ull;
+            w2c_j1 = 888ull;
             w2c_j0 += w2c_j1;
             w2c_j1 = w2c_l3;
             w2c_j2 = 520ull;
@@ -11084,8 +11068,8 @@ static void w2c_f9(Z_dine_ffi_instance_t* instance, u64 w2c_p0, u64 w2c_p1, u64 
               w2c_i0 = w2c_l41;
               w2c_i1 = 1u;
               w2c_i0 -= w2c_i1;
-              if (w2c_i0) {goto w2c_B280;}
-              goto w2c_B275;
+              if (w2c_i0) {goto w2c_B285;}
+              goto w2c_B280;
             }
             w2c_j0 = w2c_l4;
             w2c_j1 = 16ull;
@@ -11097,10 +11081,10 @@ static void w2c_f9(Z_dine_ffi_instance_t* instance, u64 w2c_p0, u64 w2c_p1, u64 
             w2c_j1 += w2c_j2;
             w2c_p1 = w2c_j1;
             w2c_i0 = w2c_j0 != w2c_j1;
-            if (w2c_i0) {goto w2c_L281;}
+            if (w2c_i0) {goto w2c_L286;}
           w2c_j0 = w2c_l6;
           w2c_p1 = w2c_j0;
-          w2c_B280:;
+          w2c_B285:;
           w2c_j0 = w2c_p1;
           w2c_j1 = 3ull;
           w2c_j0 <<= (w2c_j1 & 63);
@@ -11118,39 +11102,39 @@ static void w2c_f9(Z_dine_ffi_instance_t* instance, u64 w2c_p0, u64 w2c_p1, u64 
           w2c_j1 = 312ull;
           w2c_j0 += w2c_j1;
           w2c_l4 = w2c_j0;
-          goto w2c_L278;
+          goto w2c_L283;
         }
       w2c_j0 = w2c_l3;
       w2c_i0 = (u32)(w2c_j0);
       w2c_j1 = w2c_l8;
-      i64_store(&instance->w2c_memory, (u64)(w2c_i0) + 1328, w2c_j1);
+      i64_store(&instance->w2c_memory, (u64)(w2c_i0) + 1264, w2c_j1);
       w2c_j0 = w2c_l3;
       w2c_i0 = (u32)(w2c_j0);
       w2c_j1 = w2c_p2;
-      i64_store(&instance->w2c_memory, (u64)(w2c_i0) + 1320, w2c_j1);
+      i64_store(&instance->w2c_memory, (u64)(w2c_i0) + 1256, w2c_j1);
       w2c_j0 = w2c_l3;
       w2c_i0 = (u32)(w2c_j0);
-      w2c_j0 = i64_load(&instance->w2c_memory, (u64)(w2c_i0) + 1280u);
+      w2c_j0 = i64_load(&instance->w2c_memory, (u64)(w2c_i0) + 1216u);
       w2c_l17 = w2c_j0;
       w2c_j1 = 2ull;
       w2c_j0 += w2c_j1;
       w2c_i0 = (u32)(w2c_j0);
       w2c_i0 = i32_load16_u(&instance->w2c_memory, (u64)(w2c_i0));
-      goto w2c_B276;
+      goto w2c_B281;
     }
     w2c_j0 = w2c_l3;
     w2c_i0 = (u32)(w2c_j0);
     w2c_j1 = w2c_l8;
-    i64_store(&instance->w2c_memory, (u64)(w2c_i0) + 1328, w2c_j1);
+    i64_store(&instance->w2c_memory, (u64)(w2c_i0) + 1264, w2c_j1);
     w2c_j0 = w2c_l3;
     w2c_i0 = (u32)(w2c_j0);
     w2c_j1 = w2c_p2;
-    i64_store(&instance->w2c_memory, (u64)(w2c_i0) + 1320, w2c_j1);
+    i64_store(&instance->w2c_memory, (u64)(w2c_i0) + 1256, w2c_j1);
     w2c_j0 = w2c_l3;
     w2c_j1 = 136ull;
     w2c_j0 += w2c_j1;
     w2c_j1 = 312ull;
-    w2c_f136(instance, w2c_j0, w2c_j1);
+    w2c_f140(instance, w2c_j0, w2c_j1);
     w2c_j0 = w2c_l3;
     w2c_i0 = (u32)(w2c_j0);
     w2c_j0 = i64_load(&instance->w2c_memory, (u64)(w2c_i0) + 136u);
@@ -11158,7 +11142,7 @@ static void w2c_f9(Z_dine_ffi_instance_t* instance, u64 w2c_p0, u64 w2c_p1, u64 
     w2c_i1 = 1u;
     w2c_i0 &= w2c_i1;
     w2c_i0 = !(w2c_i0);
-    if (w2c_i0) {goto w2c_B255;}
+    if (w2c_i0) {goto w2c_B260;}
     w2c_j0 = w2c_l3;
     w2c_i0 = (u32)(w2c_j0);
     w2c_j0 = i64_load(&instance->w2c_memory, (u64)(w2c_i0) + 144u);
@@ -11169,9 +11153,9 @@ static void w2c_f9(Z_dine_ffi_instance_t* instance, u64 w2c_p0, u64 w2c_p1, u64 
     w2c_j0 = w2c_l3;
     w2c_i0 = (u32)(w2c_j0);
     w2c_j1 = w2c_l17;
-    i64_store(&instance->w2c_memory, (u64)(w2c_i0) + 1280, w2c_j1);
+    i64_store(&instance->w2c_memory, (u64)(w2c_i0) + 1216, w2c_j1);
     w2c_i0 = 0u;
-    w2c_B276:;
+    w2c_B281:;
     w2c_l42 = w2c_i0;
     w2c_j0 = w2c_l14;
     w2c_i0 = (u32)(w2c_j0);
@@ -11198,7 +11182,7 @@ static void w2c_f9(Z_dine_ffi_instance_t* instance, u64 w2c_p0, u64 w2c_p1, u64 
     w2c_l10 = w2c_j0;
     w2c_j0 = 0ull;
     w2c_l6 = w2c_j0;
-    w2c_L285: 
+    w2c_L290: 
       w2c_j0 = 0ull;
       w2c_p1 = w2c_j0;
       w2c_j0 = w2c_l4;
@@ -11207,14 +11191,14 @@ static void w2c_f9(Z_dine_ffi_instance_t* instance, u64 w2c_p0, u64 w2c_p1, u64 
       w2c_j0 = i64_load16_u(&instance->w2c_memory, (u64)(w2c_i0));
       w2c_l5 = w2c_j0;
       w2c_i0 = !(w2c_j0);
-      if (w2c_i0) {goto w2c_B286;}
+      if (w2c_i0) {goto w2c_B291;}
       w2c_j0 = w2c_l7;
       w2c_j1 = 8ull;
       w2c_j0 += w2c_j1;
       w2c_l4 = w2c_j0;
-      w2c_L287: 
+      w2c_L292: 
         w2c_j0 = w2c_l3;
-        w2c_j1 = 1320ull;
+        w2c_j1 = 1256ull;
         w2c_j0 += w2c_j1;
         w2c_j1 = w2c_l4;
         w2c_i0 = w2c_f21(instance, w2c_j0, w2c_j1);
@@ -11227,8 +11211,8 @@ static void w2c_f9(Z_dine_ffi_instance_t* instance, u64 w2c_p0, u64 w2c_p1, u64 
           w2c_i0 = w2c_l41;
           w2c_i1 = 1u;
           w2c_i0 -= w2c_i1;
-          if (w2c_i0) {goto w2c_B286;}
-          goto w2c_B284;
+          if (w2c_i0) {goto w2c_B291;}
+          goto w2c_B289;
         }
         w2c_j0 = w2c_l4;
         w2c_j1 = 16ull;
@@ -11240,10 +11224,10 @@ static void w2c_f9(Z_dine_ffi_instance_t* instance, u64 w2c_p0, u64 w2c_p1, u64 
         w2c_j1 += w2c_j2;
         w2c_p1 = w2c_j1;
         w2c_i0 = w2c_j0 != w2c_j1;
-        if (w2c_i0) {goto w2c_L287;}
+        if (w2c_i0) {goto w2c_L292;}
       w2c_j0 = w2c_l5;
       w2c_p1 = w2c_j0;
-      w2c_B286:;
+      w2c_B291:;
       w2c_j0 = w2c_l10;
       w2c_j1 = 1ull;
       w2c_j0 += w2c_j1;
@@ -11282,14 +11266,14 @@ static void w2c_f9(Z_dine_ffi_instance_t* instance, u64 w2c_p0, u64 w2c_p1, u64 
         w2c_l12 = w2c_j0;
         w2c_j0 = w2c_l7;
         w2c_l11 = w2c_j0;
-        goto w2c_L285;
+        goto w2c_L290;
       }
     w2c_j0 = w2c_l34;
     w2c_j1 = 9223372036854775806ull;
     w2c_i0 = w2c_j0 > w2c_j1;
-    if (w2c_i0) {goto w2c_B253;}
+    if (w2c_i0) {goto w2c_B258;}
     w2c_j0 = w2c_l3;
-    w2c_j1 = 1280ull;
+    w2c_j1 = 1216ull;
     w2c_j0 += w2c_j1;
     w2c_j1 = w2c_l11;
     w2c_j2 = w2c_l12;
@@ -11322,19 +11306,19 @@ static void w2c_f9(Z_dine_ffi_instance_t* instance, u64 w2c_p0, u64 w2c_p1, u64 
         w2c_j0 = w2c_l17;
         w2c_l5 = w2c_j0;
         w2c_j0 = w2c_l15;
-        goto w2c_B293;
+        goto w2c_B298;
       }
       w2c_i0 = w2c_l42;
       w2c_i1 = 65535u;
       w2c_i0 &= w2c_i1;
       w2c_i1 = 10u;
       w2c_i0 = w2c_i0 > w2c_i1;
-      if (w2c_i0) {goto w2c_B253;}
+      if (w2c_i0) {goto w2c_B258;}
       w2c_j0 = w2c_l3;
       w2c_j1 = 120ull;
       w2c_j0 += w2c_j1;
       w2c_j1 = 440ull;
-      w2c_f136(instance, w2c_j0, w2c_j1);
+      w2c_f140(instance, w2c_j0, w2c_j1);
       w2c_j0 = w2c_l3;
       w2c_i0 = (u32)(w2c_j0);
       w2c_j0 = i64_load(&instance->w2c_memory, (u64)(w2c_i0) + 120u);
@@ -11342,7 +11326,7 @@ static void w2c_f9(Z_dine_ffi_instance_t* instance, u64 w2c_p0, u64 w2c_p1, u64 
       w2c_i1 = 1u;
       w2c_i0 &= w2c_i1;
       w2c_i0 = !(w2c_i0);
-      if (w2c_i0) {goto w2c_B253;}
+      if (w2c_i0) {goto w2c_B258;}
       w2c_j0 = w2c_l3;
       w2c_i0 = (u32)(w2c_j0);
       w2c_j0 = i64_load(&instance->w2c_memory, (u64)(w2c_i0) + 128u);
@@ -11367,24 +11351,24 @@ static void w2c_f9(Z_dine_ffi_instance_t* instance, u64 w2c_p0, u64 w2c_p1, u64 
       w2c_j0 = w2c_l3;
       w2c_i0 = (u32)(w2c_j0);
       w2c_j1 = w2c_l5;
-      i64_store(&instance->w2c_memory, (u64)(w2c_i0) + 1280, w2c_j1);
+      i64_store(&instance->w2c_memory, (u64)(w2c_i0) + 1216, w2c_j1);
       w2c_j0 = 14ull;
       w2c_j1 = w2c_l16;
       w2c_j0 -= w2c_j1;
-      w2c_B293:;
+      w2c_B298:;
       w2c_l24 = w2c_j0;
       w2c_j0 = w2c_l3;
       w2c_i0 = (u32)(w2c_j0);
       w2c_j1 = 0ull;
-      i64_store(&instance->w2c_memory, (u64)(w2c_i0) + 960, w2c_j1);
+      i64_store(&instance->w2c_memory, (u64)(w2c_i0) + 896, w2c_j1);
       w2c_j0 = w2c_l3;
       w2c_i0 = (u32)(w2c_j0);
       w2c_j1 = 0ull;
-      i64_store(&instance->w2c_memory, (u64)(w2c_i0) + 952, w2c_j1);
+      i64_store(&instance->w2c_memory, (u64)(w2c_i0) + 888, w2c_j1);
       w2c_j0 = w2c_l10;
       w2c_j1 = w2c_l24;
       w2c_i0 = w2c_j0 <= w2c_j1;
-      if (w2c_i0) {goto w2c_B295;}
+      if (w2c_i0) {goto w2c_B300;}
       w2c_j0 = w2c_l9;
       w2c_j1 = w2c_l15;
       w2c_j0 += w2c_j1;
@@ -11400,7 +11384,7 @@ static void w2c_f9(Z_dine_ffi_instance_t* instance, u64 w2c_p0, u64 w2c_p1, u64 
       if (w2c_i0) {
         w2c_j0 = w2c_l10;
         w2c_l4 = w2c_j0;
-        goto w2c_B296;
+        goto w2c_B301;
       }
       w2c_i0 = w2c_l43;
       w2c_j1 = w2c_l24;
@@ -11412,13 +11396,13 @@ static void w2c_f9(Z_dine_ffi_instance_t* instance, u64 w2c_p0, u64 w2c_p1, u64 
       w2c_p1 = w2c_j0;
       w2c_j0 = w2c_l10;
       w2c_l4 = w2c_j0;
-      w2c_L298: 
+      w2c_L303: 
         w2c_j0 = w2c_l4;
         w2c_j1 = 1ull;
         w2c_j0 -= w2c_j1;
         w2c_l4 = w2c_j0;
         w2c_j1 = w2c_l3;
-        w2c_j2 = 952ull;
+        w2c_j2 = 888ull;
         w2c_j1 += w2c_j2;
         w2c_j0 += w2c_j1;
         w2c_i0 = (u32)(w2c_j0);
@@ -11437,13 +11421,13 @@ static void w2c_f9(Z_dine_ffi_instance_t* instance, u64 w2c_p0, u64 w2c_p1, u64 
         w2c_p1 = w2c_j0;
         w2c_j1 = 0ull;
         w2c_i0 = w2c_j0 != w2c_j1;
-        if (w2c_i0) {goto w2c_L298;}
-      w2c_B296:;
+        if (w2c_i0) {goto w2c_L303;}
+      w2c_B301:;
       w2c_j0 = w2c_l7;
       w2c_j1 = 3ull;
       w2c_i0 = w2c_j0 < w2c_j1;
-      if (w2c_i0) {goto w2c_B295;}
-      w2c_L299: 
+      if (w2c_i0) {goto w2c_B300;}
+      w2c_L304: 
         w2c_j0 = w2c_l4;
         w2c_j1 = w2c_l35;
         w2c_j0 += w2c_j1;
@@ -11495,19 +11479,19 @@ static void w2c_f9(Z_dine_ffi_instance_t* instance, u64 w2c_p0, u64 w2c_p1, u64 
         w2c_j1 -= w2c_j2;
         w2c_l4 = w2c_j1;
         w2c_i0 = w2c_j0 < w2c_j1;
-        if (w2c_i0) {goto w2c_L299;}
-      w2c_B295:;
+        if (w2c_i0) {goto w2c_L304;}
+      w2c_B300:;
       w2c_j0 = w2c_l3;
       w2c_i0 = (u32)(w2c_j0);
       w2c_j1 = w2c_l3;
       w2c_i1 = (u32)(w2c_j1);
-      w2c_j1 = i64_load(&instance->w2c_memory, (u64)(w2c_i1) + 960u);
+      w2c_j1 = i64_load(&instance->w2c_memory, (u64)(w2c_i1) + 896u);
       i64_store(&instance->w2c_memory, (u64)(w2c_i0) + 528, w2c_j1);
       w2c_j0 = w2c_l3;
       w2c_i0 = (u32)(w2c_j0);
       w2c_j1 = w2c_l3;
       w2c_i1 = (u32)(w2c_j1);
-      w2c_j1 = i64_load(&instance->w2c_memory, (u64)(w2c_i1) + 952u);
+      w2c_j1 = i64_load(&instance->w2c_memory, (u64)(w2c_i1) + 888u);
       i64_store(&instance->w2c_memory, (u64)(w2c_i0) + 520, w2c_j1);
       w2c_j0 = 16ull;
       w2c_j1 = w2c_l24;
@@ -11523,10 +11507,10 @@ static void w2c_f9(Z_dine_ffi_instance_t* instance, u64 w2c_p0, u64 w2c_p1, u64 
         w2c_j0 += w2c_j1;
         w2c_l17 = w2c_j0;
         w2c_j0 = w2c_l3;
-        w2c_j1 = 1280ull;
+        w2c_j1 = 1216ull;
         w2c_j0 += w2c_j1;
         w2c_l16 = w2c_j0;
-        w2c_L301: 
+        w2c_L306: 
           w2c_j0 = w2c_l4;
           w2c_l15 = w2c_j0;
           w2c_j0 = w2c_l16;
@@ -11553,7 +11537,7 @@ static void w2c_f9(Z_dine_ffi_instance_t* instance, u64 w2c_p0, u64 w2c_p1, u64 
           w2c_i0 = i32_load16_u(&instance->w2c_memory, (u64)(w2c_i0));
           w2c_i1 = 15u;
           w2c_i0 = w2c_i0 < w2c_i1;
-          if (w2c_i0) {goto w2c_B302;}
+          if (w2c_i0) {goto w2c_B307;}
           w2c_j0 = w2c_l11;
           w2c_j1 = 2ull;
           w2c_j0 += w2c_j1;
@@ -11568,7 +11552,7 @@ static void w2c_f9(Z_dine_ffi_instance_t* instance, u64 w2c_p0, u64 w2c_p1, u64 
             w2c_j1 = 88ull;
             w2c_j0 += w2c_j1;
             w2c_j1 = 312ull;
-            w2c_f136(instance, w2c_j0, w2c_j1);
+            w2c_f140(instance, w2c_j0, w2c_j1);
             w2c_j0 = w2c_l3;
             w2c_i0 = (u32)(w2c_j0);
             w2c_j0 = i64_load(&instance->w2c_memory, (u64)(w2c_i0) + 88u);
@@ -11576,17 +11560,17 @@ static void w2c_f9(Z_dine_ffi_instance_t* instance, u64 w2c_p0, u64 w2c_p1, u64 
             w2c_i1 = 1u;
             w2c_i0 &= w2c_i1;
             w2c_i0 = !(w2c_i0);
-            if (w2c_i0) {goto w2c_B291;}
+            if (w2c_i0) {goto w2c_B296;}
             w2c_j0 = w2c_l3;
             w2c_i0 = (u32)(w2c_j0);
             w2c_j0 = i64_load(&instance->w2c_memory, (u64)(w2c_i0) + 96u);
-            goto w2c_B303;
+            goto w2c_B308;
           }
           w2c_j0 = w2c_l3;
           w2c_j1 = 104ull;
           w2c_j0 += w2c_j1;
           w2c_j1 = 440ull;
-          w2c_f136(instance, w2c_j0, w2c_j1);
+          w2c_f140(instance, w2c_j0, w2c_j1);
           w2c_j0 = w2c_l3;
           w2c_i0 = (u32)(w2c_j0);
           w2c_j0 = i64_load(&instance->w2c_memory, (u64)(w2c_i0) + 104u);
@@ -11594,11 +11578,11 @@ static void w2c_f9(Z_dine_ffi_instance_t* instance, u64 w2c_p0, u64 w2c_p1, u64 
           w2c_i1 = 1u;
           w2c_i0 &= w2c_i1;
           w2c_i0 = !(w2c_i0);
-          if (w2c_i0) {goto w2c_B291;}
+          if (w2c_i0) {goto w2c_B296;}
           w2c_j0 = w2c_l3;
           w2c_i0 = (u32)(w2c_j0);
           w2c_j0 = i64_load(&instance->w2c_memory, (u64)(w2c_i0) + 112u);
-          w2c_B303:;
+          w2c_B308:;
           w2c_l6 = w2c_j0;
           w2c_j1 = 2ull;
           w2c_j0 += w2c_j1;
@@ -11611,38 +11595,38 @@ static void w2c_f9(Z_dine_ffi_instance_t* instance, u64 w2c_p0, u64 w2c_p1, u64 
           w2c_i1 = (u32)(w2c_j1);
           w2c_j1 = i64_load(&instance->w2c_memory, (u64)(w2c_i1));
           w2c_l4 = w2c_j1;
-          i64_store(&instance->w2c_memory, (u64)(w2c_i0) + 1024, w2c_j1);
+          i64_store(&instance->w2c_memory, (u64)(w2c_i0) + 960, w2c_j1);
           w2c_j0 = w2c_l3;
           w2c_i0 = (u32)(w2c_j0);
           w2c_j1 = 15ull;
-          i64_store(&instance->w2c_memory, (u64)(w2c_i0) + 992, w2c_j1);
+          i64_store(&instance->w2c_memory, (u64)(w2c_i0) + 928, w2c_j1);
           w2c_j0 = w2c_l3;
           w2c_i0 = (u32)(w2c_j0);
           w2c_j1 = w2c_l4;
           w2c_j2 = 248ull;
           w2c_j1 += w2c_j2;
-          i64_store(&instance->w2c_memory, (u64)(w2c_i0) + 976, w2c_j1);
+          i64_store(&instance->w2c_memory, (u64)(w2c_i0) + 912, w2c_j1);
           w2c_j0 = w2c_l3;
           w2c_i0 = (u32)(w2c_j0);
           w2c_j1 = 15ull;
-          i64_store(&instance->w2c_memory, (u64)(w2c_i0) + 968, w2c_j1);
+          i64_store(&instance->w2c_memory, (u64)(w2c_i0) + 904, w2c_j1);
           w2c_j0 = w2c_l3;
           w2c_i0 = (u32)(w2c_j0);
           w2c_j1 = w2c_l4;
           w2c_j2 = 8ull;
           w2c_j1 += w2c_j2;
-          i64_store(&instance->w2c_memory, (u64)(w2c_i0) + 952, w2c_j1);
+          i64_store(&instance->w2c_memory, (u64)(w2c_i0) + 888, w2c_j1);
           w2c_j0 = w2c_l3;
           w2c_i0 = (u32)(w2c_j0);
           w2c_j1 = w2c_l4;
           w2c_i1 = (u32)(w2c_j1);
           w2c_j1 = i64_load16_u(&instance->w2c_memory, (u64)(w2c_i1));
           w2c_l5 = w2c_j1;
-          i64_store(&instance->w2c_memory, (u64)(w2c_i0) + 984, w2c_j1);
+          i64_store(&instance->w2c_memory, (u64)(w2c_i0) + 920, w2c_j1);
           w2c_j0 = w2c_l3;
           w2c_i0 = (u32)(w2c_j0);
           w2c_j1 = w2c_l5;
-          i64_store(&instance->w2c_memory, (u64)(w2c_i0) + 960, w2c_j1);
+          i64_store(&instance->w2c_memory, (u64)(w2c_i0) + 896, w2c_j1);
           w2c_j0 = w2c_l3;
           w2c_i0 = (u32)(w2c_j0);
           w2c_j1 = 16ull;
@@ -11654,7 +11638,7 @@ static void w2c_f9(Z_dine_ffi_instance_t* instance, u64 w2c_p0, u64 w2c_p1, u64 
           w2c_i3 = i32_load16_u(&instance->w2c_memory, (u64)(w2c_i3));
           w2c_l43 = w2c_i3;
           w2c_j1 = w2c_i3 ? w2c_j1 : w2c_j2;
-          i64_store(&instance->w2c_memory, (u64)(w2c_i0) + 1016, w2c_j1);
+          i64_store(&instance->w2c_memory, (u64)(w2c_i0) + 952, w2c_j1);
           w2c_j0 = w2c_l3;
           w2c_i0 = (u32)(w2c_j0);
           w2c_j1 = w2c_l5;
@@ -11663,14 +11647,14 @@ static void w2c_f9(Z_dine_ffi_instance_t* instance, u64 w2c_p0, u64 w2c_p1, u64 
           w2c_j2 = 0ull;
           w2c_i3 = w2c_l43;
           w2c_j1 = w2c_i3 ? w2c_j1 : w2c_j2;
-          i64_store(&instance->w2c_memory, (u64)(w2c_i0) + 1008, w2c_j1);
+          i64_store(&instance->w2c_memory, (u64)(w2c_i0) + 944, w2c_j1);
           w2c_j0 = w2c_l3;
           w2c_i0 = (u32)(w2c_j0);
           w2c_j1 = w2c_l4;
           w2c_j2 = 312ull;
           w2c_j1 += w2c_j2;
           w2c_l4 = w2c_j1;
-          i64_store(&instance->w2c_memory, (u64)(w2c_i0) + 1000, w2c_j1);
+          i64_store(&instance->w2c_memory, (u64)(w2c_i0) + 936, w2c_j1);
           w2c_j0 = w2c_l6;
           w2c_j1 = 248ull;
           w2c_j0 += w2c_j1;
@@ -11714,7 +11698,7 @@ static void w2c_f9(Z_dine_ffi_instance_t* instance, u64 w2c_p0, u64 w2c_p1, u64 
           if (w2c_i0) {
             w2c_j0 = w2c_l26;
             w2c_i0 = !(w2c_j0);
-            if (w2c_i0) {goto w2c_B307;}
+            if (w2c_i0) {goto w2c_B312;}
             w2c_j0 = w2c_l31;
             w2c_j1 = 3ull;
             w2c_j0 &= w2c_j1;
@@ -11735,7 +11719,7 @@ static void w2c_f9(Z_dine_ffi_instance_t* instance, u64 w2c_p0, u64 w2c_p1, u64 
               w2c_l21 = w2c_j0;
               w2c_j0 = 0ull;
               w2c_l7 = w2c_j0;
-              w2c_L311: 
+              w2c_L316: 
                 w2c_j0 = w2c_l5;
                 w2c_j1 = w2c_l7;
                 w2c_j0 += w2c_j1;
@@ -11840,10 +11824,10 @@ static void w2c_f9(Z_dine_ffi_instance_t* instance, u64 w2c_p0, u64 w2c_p1, u64 
                 w2c_j1 += w2c_j2;
                 w2c_l11 = w2c_j1;
                 w2c_i0 = w2c_j0 != w2c_j1;
-                if (w2c_i0) {goto w2c_L311;}
+                if (w2c_i0) {goto w2c_L316;}
               w2c_j0 = w2c_l9;
               w2c_i0 = !(w2c_j0);
-              if (w2c_i0) {goto w2c_B308;}
+              if (w2c_i0) {goto w2c_B313;}
             }
             w2c_j0 = w2c_l6;
             w2c_j1 = w2c_l11;
@@ -11860,7 +11844,7 @@ static void w2c_f9(Z_dine_ffi_instance_t* instance, u64 w2c_p0, u64 w2c_p1, u64 
             w2c_j1 = 136ull;
             w2c_j0 += w2c_j1;
             w2c_p1 = w2c_j0;
-            w2c_L312: 
+            w2c_L317: 
               w2c_j0 = w2c_p1;
               w2c_i0 = (u32)(w2c_j0);
               w2c_j0 = i64_load(&instance->w2c_memory, (u64)(w2c_i0));
@@ -11889,12 +11873,12 @@ static void w2c_f9(Z_dine_ffi_instance_t* instance, u64 w2c_p0, u64 w2c_p1, u64 
               w2c_l9 = w2c_j0;
               w2c_j1 = 0ull;
               w2c_i0 = w2c_j0 != w2c_j1;
-              if (w2c_i0) {goto w2c_L312;}
-            goto w2c_B308;
+              if (w2c_i0) {goto w2c_L317;}
+            goto w2c_B313;
           }
           w2c_j0 = w2c_l4;
           w2c_i0 = !(w2c_j0);
-          if (w2c_i0) {goto w2c_B308;}
+          if (w2c_i0) {goto w2c_B313;}
           w2c_j0 = w2c_p1;
           w2c_i0 = (u32)(w2c_j0);
           w2c_j1 = w2c_l7;
@@ -11902,7 +11886,7 @@ static void w2c_f9(Z_dine_ffi_instance_t* instance, u64 w2c_p0, u64 w2c_p1, u64 
           w2c_j2 = w2c_l4;
           w2c_i2 = (u32)(w2c_j2);
           memory_copy(&instance->w2c_memory, &instance->w2c_memory, w2c_i0, w2c_i1, w2c_i2);
-          w2c_B308:;
+          w2c_B313:;
           w2c_j0 = w2c_l26;
           w2c_j1 = 2ull;
           w2c_j0 <<= (w2c_j1 & 63);
@@ -11914,10 +11898,10 @@ static void w2c_f9(Z_dine_ffi_instance_t* instance, u64 w2c_p0, u64 w2c_p1, u64 
           w2c_p1 = w2c_j2;
           w2c_j1 -= w2c_j2;
           w2c_i0 = w2c_j0 <= w2c_j1;
-          if (w2c_i0) {goto w2c_B306;}
+          if (w2c_i0) {goto w2c_B311;}
           w2c_j0 = w2c_l26;
           w2c_i0 = !(w2c_j0);
-          if (w2c_i0) {goto w2c_B305;}
+          if (w2c_i0) {goto w2c_B310;}
           w2c_j0 = w2c_l31;
           w2c_j1 = 3ull;
           w2c_j0 &= w2c_j1;
@@ -11938,7 +11922,7 @@ static void w2c_f9(Z_dine_ffi_instance_t* instance, u64 w2c_p0, u64 w2c_p1, u64 
             w2c_l12 = w2c_j0;
             w2c_j0 = 0ull;
             w2c_l4 = w2c_j0;
-            w2c_L314: 
+            w2c_L319: 
               w2c_j0 = w2c_l4;
               w2c_j1 = w2c_l6;
               w2c_j0 += w2c_j1;
@@ -11995,10 +11979,10 @@ static void w2c_f9(Z_dine_ffi_instance_t* instance, u64 w2c_p0, u64 w2c_p1, u64 
               w2c_j1 += w2c_j2;
               w2c_l11 = w2c_j1;
               w2c_i0 = w2c_j0 != w2c_j1;
-              if (w2c_i0) {goto w2c_L314;}
+              if (w2c_i0) {goto w2c_L319;}
             w2c_j0 = w2c_l9;
             w2c_i0 = !(w2c_j0);
-            if (w2c_i0) {goto w2c_B305;}
+            if (w2c_i0) {goto w2c_B310;}
           }
           w2c_j0 = w2c_l6;
           w2c_j1 = w2c_l11;
@@ -12015,7 +11999,7 @@ static void w2c_f9(Z_dine_ffi_instance_t* instance, u64 w2c_p0, u64 w2c_p1, u64 
           w2c_j1 = 280ull;
           w2c_j0 += w2c_j1;
           w2c_p1 = w2c_j0;
-          w2c_L315: 
+          w2c_L320: 
             w2c_j0 = w2c_l4;
             w2c_i0 = (u32)(w2c_j0);
             w2c_j1 = w2c_p1;
@@ -12036,19 +12020,19 @@ static void w2c_f9(Z_dine_ffi_instance_t* instance, u64 w2c_p0, u64 w2c_p1, u64 
             w2c_l9 = w2c_j0;
             w2c_j1 = 0ull;
             w2c_i0 = w2c_j0 != w2c_j1;
-            if (w2c_i0) {goto w2c_L315;}
-          goto w2c_B305;
-          w2c_B307:;
+            if (w2c_i0) {goto w2c_L320;}
+          goto w2c_B310;
+          w2c_B312:;
           w2c_j0 = w2c_l5;
           w2c_j1 = 280ull;
           w2c_j0 += w2c_j1;
           w2c_p1 = w2c_j0;
           w2c_j0 = 0ull;
           w2c_l4 = w2c_j0;
-          w2c_B306:;
+          w2c_B311:;
           w2c_j0 = w2c_l4;
           w2c_i0 = !(w2c_j0);
-          if (w2c_i0) {goto w2c_B305;}
+          if (w2c_i0) {goto w2c_B310;}
           w2c_j0 = w2c_l30;
           w2c_i0 = (u32)(w2c_j0);
           w2c_j1 = w2c_p1;
@@ -12056,7 +12040,7 @@ static void w2c_f9(Z_dine_ffi_instance_t* instance, u64 w2c_p0, u64 w2c_p1, u64 
           w2c_j2 = w2c_l4;
           w2c_i2 = (u32)(w2c_j2);
           memory_copy(&instance->w2c_memory, &instance->w2c_memory, w2c_i0, w2c_i1, w2c_i2);
-          w2c_B305:;
+          w2c_B310:;
           w2c_j0 = w2c_l5;
           w2c_j1 = 276ull;
           w2c_j0 += w2c_j1;
@@ -12079,7 +12063,7 @@ static void w2c_f9(Z_dine_ffi_instance_t* instance, u64 w2c_p0, u64 w2c_p1, u64 
           w2c_i1 = 65535u;
           w2c_i0 &= w2c_i1;
           w2c_i0 = !(w2c_i0);
-          if (w2c_i0) {goto w2c_B316;}
+          if (w2c_i0) {goto w2c_B321;}
           w2c_j0 = w2c_l31;
           w2c_j1 = 7ull;
           w2c_j0 -= w2c_j1;
@@ -12100,7 +12084,7 @@ static void w2c_f9(Z_dine_ffi_instance_t* instance, u64 w2c_p0, u64 w2c_p1, u64 
           if (w2c_i0) {
             w2c_j0 = w2c_l4;
             w2c_i0 = !(w2c_j0);
-            if (w2c_i0) {goto w2c_B316;}
+            if (w2c_i0) {goto w2c_B321;}
             w2c_j0 = w2c_l4;
             w2c_j1 = 3ull;
             w2c_j0 &= w2c_j1;
@@ -12117,7 +12101,7 @@ static void w2c_f9(Z_dine_ffi_instance_t* instance, u64 w2c_p0, u64 w2c_p1, u64 
               w2c_l12 = w2c_j0;
               w2c_j0 = 0ull;
               w2c_l4 = w2c_j0;
-              w2c_L319: 
+              w2c_L324: 
                 w2c_j0 = w2c_l4;
                 w2c_j1 = w2c_l6;
                 w2c_j0 += w2c_j1;
@@ -12174,10 +12158,10 @@ static void w2c_f9(Z_dine_ffi_instance_t* instance, u64 w2c_p0, u64 w2c_p1, u64 
                 w2c_j1 += w2c_j2;
                 w2c_l11 = w2c_j1;
                 w2c_i0 = w2c_j0 != w2c_j1;
-                if (w2c_i0) {goto w2c_L319;}
+                if (w2c_i0) {goto w2c_L324;}
               w2c_j0 = w2c_l9;
               w2c_i0 = !(w2c_j0);
-              if (w2c_i0) {goto w2c_B316;}
+              if (w2c_i0) {goto w2c_B321;}
             }
             w2c_j0 = w2c_l6;
             w2c_j1 = w2c_l11;
@@ -12194,7 +12178,7 @@ static void w2c_f9(Z_dine_ffi_instance_t* instance, u64 w2c_p0, u64 w2c_p1, u64 
             w2c_j1 = 376ull;
             w2c_j0 += w2c_j1;
             w2c_p1 = w2c_j0;
-            w2c_L320: 
+            w2c_L325: 
               w2c_j0 = w2c_l4;
               w2c_i0 = (u32)(w2c_j0);
               w2c_j1 = w2c_p1;
@@ -12215,12 +12199,12 @@ static void w2c_f9(Z_dine_ffi_instance_t* instance, u64 w2c_p0, u64 w2c_p1, u64 
               w2c_l9 = w2c_j0;
               w2c_j1 = 0ull;
               w2c_i0 = w2c_j0 != w2c_j1;
-              if (w2c_i0) {goto w2c_L320;}
-            goto w2c_B316;
+              if (w2c_i0) {goto w2c_L325;}
+            goto w2c_B321;
           }
           w2c_j0 = w2c_p1;
           w2c_i0 = !(w2c_j0);
-          if (w2c_i0) {goto w2c_B316;}
+          if (w2c_i0) {goto w2c_B321;}
           w2c_j0 = w2c_l7;
           w2c_i0 = (u32)(w2c_j0);
           w2c_j1 = w2c_l9;
@@ -12228,7 +12212,7 @@ static void w2c_f9(Z_dine_ffi_instance_t* instance, u64 w2c_p0, u64 w2c_p1, u64 
           w2c_j2 = w2c_p1;
           w2c_i2 = (u32)(w2c_j2);
           memory_copy(&instance->w2c_memory, &instance->w2c_memory, w2c_i0, w2c_i1, w2c_i2);
-          w2c_B316:;
+          w2c_B321:;
           w2c_j0 = w2c_l5;
           w2c_i0 = (u32)(w2c_j0);
           w2c_i1 = 7u;
@@ -12242,7 +12226,7 @@ static void w2c_f9(Z_dine_ffi_instance_t* instance, u64 w2c_p0, u64 w2c_p1, u64 
           w2c_j1 = w2c_l5;
           i64_store(&instance->w2c_memory, (u64)(w2c_i0), w2c_j1);
           w2c_j0 = w2c_l3;
-          w2c_j1 = 952ull;
+          w2c_j1 = 888ull;
           w2c_j0 += w2c_j1;
           w2c_j1 = w2c_l22;
           w2c_j2 = w2c_l30;
@@ -12261,15 +12245,15 @@ static void w2c_f9(Z_dine_ffi_instance_t* instance, u64 w2c_p0, u64 w2c_p1, u64 
           w2c_p1 = w2c_j0;
           w2c_j0 = w2c_l3;
           w2c_i0 = (u32)(w2c_j0);
-          w2c_j0 = i64_load(&instance->w2c_memory, (u64)(w2c_i0) + 1000u);
+          w2c_j0 = i64_load(&instance->w2c_memory, (u64)(w2c_i0) + 936u);
           w2c_l5 = w2c_j0;
           w2c_j0 = w2c_l3;
           w2c_i0 = (u32)(w2c_j0);
-          w2c_j0 = i64_load(&instance->w2c_memory, (u64)(w2c_i0) + 1008u);
+          w2c_j0 = i64_load(&instance->w2c_memory, (u64)(w2c_i0) + 944u);
           w2c_l7 = w2c_j0;
           w2c_j1 = w2c_l4;
           w2c_i0 = w2c_j0 == w2c_j1;
-          if (w2c_i0) {goto w2c_B321;}
+          if (w2c_i0) {goto w2c_B326;}
           w2c_j0 = w2c_l7;
           w2c_j1 = w2c_l4;
           w2c_j0 -= w2c_j1;
@@ -12277,7 +12261,7 @@ static void w2c_f9(Z_dine_ffi_instance_t* instance, u64 w2c_p0, u64 w2c_p1, u64 
           w2c_j0 <<= (w2c_j1 & 63);
           w2c_l4 = w2c_j0;
           w2c_i0 = !(w2c_j0);
-          if (w2c_i0) {goto w2c_B321;}
+          if (w2c_i0) {goto w2c_B326;}
           w2c_j0 = w2c_p1;
           w2c_j1 = w2c_l5;
           w2c_j0 += w2c_j1;
@@ -12290,7 +12274,7 @@ static void w2c_f9(Z_dine_ffi_instance_t* instance, u64 w2c_p0, u64 w2c_p1, u64 
           w2c_j2 = w2c_l4;
           w2c_i2 = (u32)(w2c_j2);
           memory_copy(&instance->w2c_memory, &instance->w2c_memory, w2c_i0, w2c_i1, w2c_i2);
-          w2c_B321:;
+          w2c_B326:;
           w2c_j0 = w2c_p1;
           w2c_j1 = w2c_l5;
           w2c_j0 += w2c_j1;
@@ -12299,12 +12283,12 @@ static void w2c_f9(Z_dine_ffi_instance_t* instance, u64 w2c_p0, u64 w2c_p1, u64 
           i64_store(&instance->w2c_memory, (u64)(w2c_i0), w2c_j1);
           w2c_j0 = w2c_l3;
           w2c_i0 = (u32)(w2c_j0);
-          w2c_j0 = i64_load(&instance->w2c_memory, (u64)(w2c_i0) + 1024u);
+          w2c_j0 = i64_load(&instance->w2c_memory, (u64)(w2c_i0) + 960u);
           w2c_l11 = w2c_j0;
           w2c_i0 = (u32)(w2c_j0);
           w2c_j1 = w2c_l3;
           w2c_i1 = (u32)(w2c_j1);
-          w2c_j1 = i64_load(&instance->w2c_memory, (u64)(w2c_i1) + 960u);
+          w2c_j1 = i64_load(&instance->w2c_memory, (u64)(w2c_i1) + 896u);
           i64_store16(&instance->w2c_memory, (u64)(w2c_i0), w2c_j1);
           w2c_j0 = w2c_l16;
           w2c_i0 = (u32)(w2c_j0);
@@ -12321,7 +12305,7 @@ static void w2c_f9(Z_dine_ffi_instance_t* instance, u64 w2c_p0, u64 w2c_p1, u64 
             w2c_i0 = (u32)(w2c_j0);
             w2c_i0 = i32_load8_u(&instance->w2c_memory, (u64)(w2c_i0));
             w2c_l41 = w2c_i0;
-            goto w2c_B302;
+            goto w2c_B307;
           }
           w2c_j0 = w2c_l17;
           w2c_i0 = (u32)(w2c_j0);
@@ -12336,7 +12320,7 @@ static void w2c_f9(Z_dine_ffi_instance_t* instance, u64 w2c_p0, u64 w2c_p1, u64 
           w2c_i1 += w2c_i2;
           w2c_l41 = w2c_i1;
           i32_store8(&instance->w2c_memory, (u64)(w2c_i0), w2c_i1);
-          w2c_B302:;
+          w2c_B307:;
           w2c_j0 = w2c_l15;
           w2c_j1 = 1ull;
           w2c_j0 -= w2c_j1;
@@ -12360,17 +12344,17 @@ static void w2c_f9(Z_dine_ffi_instance_t* instance, u64 w2c_p0, u64 w2c_p1, u64 
           w2c_j0 = w2c_l15;
           w2c_j1 = 2ull;
           w2c_i0 = w2c_j0 > w2c_j1;
-          if (w2c_i0) {goto w2c_L301;}
+          if (w2c_i0) {goto w2c_L306;}
         w2c_j0 = w2c_l3;
         w2c_i0 = (u32)(w2c_j0);
-        w2c_j0 = i64_load(&instance->w2c_memory, (u64)(w2c_i0) + 1280u);
+        w2c_j0 = i64_load(&instance->w2c_memory, (u64)(w2c_i0) + 1216u);
         w2c_l5 = w2c_j0;
       }
       w2c_j0 = w2c_l5;
       w2c_i0 = (u32)(w2c_j0);
       w2c_i0 = i32_load16_u(&instance->w2c_memory, (u64)(w2c_i0));
       w2c_i0 = !(w2c_i0);
-      if (w2c_i0) {goto w2c_B290;}
+      if (w2c_i0) {goto w2c_B295;}
       w2c_j0 = w2c_l12;
       w2c_j1 = 3ull;
       w2c_j0 <<= (w2c_j1 & 63);
@@ -12387,7 +12371,7 @@ static void w2c_f9(Z_dine_ffi_instance_t* instance, u64 w2c_p0, u64 w2c_p1, u64 
     w2c_j0 = w2c_l3;
     w2c_i0 = (u32)(w2c_j0);
     w2c_j1 = w2c_l3;
-    w2c_j2 = 1280ull;
+    w2c_j2 = 1216ull;
     w2c_j1 += w2c_j2;
     w2c_j2 = w2c_l4;
     w2c_j3 = w2c_l11;
@@ -12402,44 +12386,44 @@ static void w2c_f9(Z_dine_ffi_instance_t* instance, u64 w2c_p0, u64 w2c_p1, u64 
     w2c_i1 = (u32)(w2c_j1);
     w2c_j1 = i64_load(&instance->w2c_memory, (u64)(w2c_i1));
     w2c_l4 = w2c_j1;
-    i64_store(&instance->w2c_memory, (u64)(w2c_i0) + 1024, w2c_j1);
+    i64_store(&instance->w2c_memory, (u64)(w2c_i0) + 960, w2c_j1);
     w2c_j0 = w2c_l3;
     w2c_i0 = (u32)(w2c_j0);
     w2c_j1 = w2c_l4;
     w2c_j2 = 312ull;
     w2c_j1 += w2c_j2;
-    i64_store(&instance->w2c_memory, (u64)(w2c_i0) + 1000, w2c_j1);
+    i64_store(&instance->w2c_memory, (u64)(w2c_i0) + 936, w2c_j1);
     w2c_j0 = w2c_l3;
     w2c_i0 = (u32)(w2c_j0);
     w2c_j1 = 15ull;
-    i64_store(&instance->w2c_memory, (u64)(w2c_i0) + 992, w2c_j1);
+    i64_store(&instance->w2c_memory, (u64)(w2c_i0) + 928, w2c_j1);
     w2c_j0 = w2c_l3;
     w2c_i0 = (u32)(w2c_j0);
     w2c_j1 = w2c_l4;
     w2c_j2 = 248ull;
     w2c_j1 += w2c_j2;
-    i64_store(&instance->w2c_memory, (u64)(w2c_i0) + 976, w2c_j1);
+    i64_store(&instance->w2c_memory, (u64)(w2c_i0) + 912, w2c_j1);
     w2c_j0 = w2c_l3;
     w2c_i0 = (u32)(w2c_j0);
     w2c_j1 = 15ull;
-    i64_store(&instance->w2c_memory, (u64)(w2c_i0) + 968, w2c_j1);
+    i64_store(&instance->w2c_memory, (u64)(w2c_i0) + 904, w2c_j1);
     w2c_j0 = w2c_l3;
     w2c_i0 = (u32)(w2c_j0);
     w2c_j1 = w2c_l4;
     w2c_j2 = 8ull;
     w2c_j1 += w2c_j2;
-    i64_store(&instance->w2c_memory, (u64)(w2c_i0) + 952, w2c_j1);
+    i64_store(&instance->w2c_memory, (u64)(w2c_i0) + 888, w2c_j1);
     w2c_j0 = w2c_l3;
     w2c_i0 = (u32)(w2c_j0);
     w2c_j1 = w2c_l4;
     w2c_i1 = (u32)(w2c_j1);
     w2c_j1 = i64_load16_u(&instance->w2c_memory, (u64)(w2c_i1));
     w2c_p1 = w2c_j1;
-    i64_store(&instance->w2c_memory, (u64)(w2c_i0) + 984, w2c_j1);
+    i64_store(&instance->w2c_memory, (u64)(w2c_i0) + 920, w2c_j1);
     w2c_j0 = w2c_l3;
     w2c_i0 = (u32)(w2c_j0);
     w2c_j1 = w2c_p1;
-    i64_store(&instance->w2c_memory, (u64)(w2c_i0) + 960, w2c_j1);
+    i64_store(&instance->w2c_memory, (u64)(w2c_i0) + 896, w2c_j1);
     w2c_j0 = w2c_l3;
     w2c_i0 = (u32)(w2c_j0);
     w2c_j1 = 16ull;
@@ -12451,7 +12435,7 @@ static void w2c_f9(Z_dine_ffi_instance_t* instance, u64 w2c_p0, u64 w2c_p1, u64 
     w2c_i3 = i32_load16_u(&instance->w2c_memory, (u64)(w2c_i3));
     w2c_l41 = w2c_i3;
     w2c_j1 = w2c_i3 ? w2c_j1 : w2c_j2;
-    i64_store(&instance->w2c_memory, (u64)(w2c_i0) + 1016, w2c_j1);
+    i64_store(&instance->w2c_memory, (u64)(w2c_i0) + 952, w2c_j1);
     w2c_j0 = w2c_l3;
     w2c_i0 = (u32)(w2c_j0);
     w2c_j1 = w2c_p1;
@@ -12460,9 +12444,9 @@ static void w2c_f9(Z_dine_ffi_instance_t* instance, u64 w2c_p0, u64 w2c_p1, u64 
     w2c_j2 = 0ull;
     w2c_i3 = w2c_l41;
     w2c_j1 = w2c_i3 ? w2c_j1 : w2c_j2;
-    i64_store(&instance->w2c_memory, (u64)(w2c_i0) + 1008, w2c_j1);
+    i64_store(&instance->w2c_memory, (u64)(w2c_i0) + 944, w2c_j1);
     w2c_j0 = w2c_l3;
-    w2c_j1 = 952ull;
+    w2c_j1 = 888ull;
     w2c_j0 += w2c_j1;
     w2c_j1 = w2c_l6;
     w2c_j2 = 15ull;
@@ -12477,12 +12461,12 @@ static void w2c_f9(Z_dine_ffi_instance_t* instance, u64 w2c_p0, u64 w2c_p1, u64 
     w2c_f26(instance, w2c_j0, w2c_j1, w2c_i2);
     w2c_j0 = w2c_l3;
     w2c_i0 = (u32)(w2c_j0);
-    w2c_j0 = i64_load(&instance->w2c_memory, (u64)(w2c_i0) + 1024u);
+    w2c_j0 = i64_load(&instance->w2c_memory, (u64)(w2c_i0) + 960u);
     w2c_l4 = w2c_j0;
     w2c_i0 = (u32)(w2c_j0);
     w2c_j1 = w2c_l3;
     w2c_i1 = (u32)(w2c_j1);
-    w2c_j1 = i64_load(&instance->w2c_memory, (u64)(w2c_i1) + 960u);
+    w2c_j1 = i64_load(&instance->w2c_memory, (u64)(w2c_i1) + 896u);
     i64_store16(&instance->w2c_memory, (u64)(w2c_i0), w2c_j1);
     w2c_j0 = w2c_l5;
     w2c_i0 = (u32)(w2c_j0);
@@ -12492,23 +12476,23 @@ static void w2c_f9(Z_dine_ffi_instance_t* instance, u64 w2c_p0, u64 w2c_p1, u64 
     w2c_j1 = 1ull;
     w2c_j0 += w2c_j1;
     w2c_l34 = w2c_j0;
-    goto w2c_B275;
-    w2c_B291:;
+    goto w2c_B280;
+    w2c_B296:;
     w2c_j0 = w2c_l3;
     w2c_i0 = (u32)(w2c_j0);
-    w2c_j0 = i64_load(&instance->w2c_memory, (u64)(w2c_i0) + 1280u);
+    w2c_j0 = i64_load(&instance->w2c_memory, (u64)(w2c_i0) + 1216u);
     w2c_l5 = w2c_j0;
     w2c_i0 = (u32)(w2c_j0);
     w2c_i0 = i32_load16_u(&instance->w2c_memory, (u64)(w2c_i0));
-    if (w2c_i0) {goto w2c_B252;}
-    w2c_B290:;
+    if (w2c_i0) {goto w2c_B257;}
+    w2c_B295:;
     w2c_j0 = w2c_l5;
     w2c_j1 = 2ull;
     w2c_j0 += w2c_j1;
     w2c_i0 = (u32)(w2c_j0);
     w2c_i0 = i32_load16_u(&instance->w2c_memory, (u64)(w2c_i0));
     w2c_i0 = !(w2c_i0);
-    if (w2c_i0) {goto w2c_B252;}
+    if (w2c_i0) {goto w2c_B257;}
     w2c_j0 = w2c_l5;
     w2c_j1 = 312ull;
     w2c_j0 += w2c_j1;
@@ -12521,14 +12505,14 @@ static void w2c_f9(Z_dine_ffi_instance_t* instance, u64 w2c_p0, u64 w2c_p1, u64 
     w2c_f27(instance, w2c_j0);
     w2c_j0 = w2c_l25;
     w2c_f22(instance, w2c_j0);
-    goto w2c_B216;
-    w2c_B284:;
+    goto w2c_B221;
+    w2c_B289:;
     w2c_j0 = w2c_p1;
     w2c_j1 = 15ull;
     w2c_j0 &= w2c_j1;
     w2c_l4 = w2c_j0;
     w2c_j1 = w2c_l3;
-    w2c_j2 = 1280ull;
+    w2c_j2 = 1216ull;
     w2c_j1 += w2c_j2;
     w2c_j2 = w2c_l11;
     w2c_j3 = w2c_l12;
@@ -12549,7 +12533,7 @@ static void w2c_f9(Z_dine_ffi_instance_t* instance, u64 w2c_p0, u64 w2c_p1, u64 
     w2c_i1 = (u32)(w2c_j1);
     w2c_j1 = i64_load16_u(&instance->w2c_memory, (u64)(w2c_i1));
     w2c_i0 = w2c_j0 >= w2c_j1;
-    if (w2c_i0) {goto w2c_B254;}
+    if (w2c_i0) {goto w2c_B259;}
     w2c_j0 = w2c_p1;
     w2c_j1 = w2c_l4;
     w2c_j2 = 2ull;
@@ -12560,7 +12544,7 @@ static void w2c_f9(Z_dine_ffi_instance_t* instance, u64 w2c_p0, u64 w2c_p1, u64 
     w2c_i0 = (u32)(w2c_j0);
     w2c_i1 = w2c_l45;
     i32_store(&instance->w2c_memory, (u64)(w2c_i0), w2c_i1);
-    w2c_B275:;
+    w2c_B280:;
     w2c_i0 = 1u;
     w2c_l43 = w2c_i0;
     w2c_j0 = w2c_l14;
@@ -12569,13 +12553,13 @@ static void w2c_f9(Z_dine_ffi_instance_t* instance, u64 w2c_p0, u64 w2c_p1, u64 
     w2c_l14 = w2c_j0;
     w2c_j1 = w2c_l13;
     w2c_i0 = w2c_j0 != w2c_j1;
-    if (w2c_i0) {goto w2c_L265;}
+    if (w2c_i0) {goto w2c_L270;}
   w2c_j0 = w2c_l3;
   w2c_i0 = (u32)(w2c_j0);
-  w2c_j0 = i64_load(&instance->w2c_memory, (u64)(w2c_i0) + 1280u);
+  w2c_j0 = i64_load(&instance->w2c_memory, (u64)(w2c_i0) + 1216u);
   w2c_l12 = w2c_j0;
   w2c_i0 = 0u;
-  w2c_B256:;
+  w2c_B261:;
   w2c_l45 = w2c_i0;
   w2c_j0 = 0ull;
   w2c_l30 = w2c_j0;
@@ -12590,7 +12574,7 @@ static void w2c_f9(Z_dine_ffi_instance_t* instance, u64 w2c_p0, u64 w2c_p1, u64 
   w2c_j0 = w2c_l3;
   w2c_i0 = (u32)(w2c_j0);
   w2c_j1 = w2c_l3;
-  w2c_j2 = 1384ull;
+  w2c_j2 = 1320ull;
   w2c_j1 += w2c_j2;
   i64_store(&instance->w2c_memory, (u64)(w2c_i0) + 584, w2c_j1);
   w2c_j0 = w2c_l28;
@@ -12601,12 +12585,12 @@ static void w2c_f9(Z_dine_ffi_instance_t* instance, u64 w2c_p0, u64 w2c_p1, u64 
     w2c_i0 = (u32)(w2c_j0);
     w2c_l56 = w2c_i0;
     w2c_j0 = w2c_l3;
-    w2c_j1 = 1384ull;
+    w2c_j1 = 1320ull;
     w2c_j0 += w2c_j1;
     w2c_l17 = w2c_j0;
     w2c_j0 = 0ull;
     w2c_l14 = w2c_j0;
-    w2c_L325: 
+    w2c_L330: 
       w2c_j0 = w2c_l3;
       w2c_j1 = 72ull;
       w2c_j0 += w2c_j1;
@@ -12631,7 +12615,7 @@ static void w2c_f9(Z_dine_ffi_instance_t* instance, u64 w2c_p0, u64 w2c_p1, u64 
         w2c_l10 = w2c_j0;
         w2c_j0 = w2c_l12;
         w2c_l9 = w2c_j0;
-        w2c_L329: 
+        w2c_L334: 
           w2c_j0 = w2c_l9;
           w2c_i0 = (u32)(w2c_j0);
           w2c_j0 = i64_load16_u(&instance->w2c_memory, (u64)(w2c_i0));
@@ -12650,7 +12634,7 @@ static void w2c_f9(Z_dine_ffi_instance_t* instance, u64 w2c_p0, u64 w2c_p1, u64 
             w2c_l8 = w2c_j0;
             w2c_j0 = 0ull;
             w2c_p1 = w2c_j0;
-            w2c_L333: 
+            w2c_L338: 
               w2c_j0 = w2c_l4;
               w2c_j1 = 8ull;
               w2c_j0 -= w2c_j1;
@@ -12664,11 +12648,11 @@ static void w2c_f9(Z_dine_ffi_instance_t* instance, u64 w2c_p0, u64 w2c_p1, u64 
               w2c_j0 = w2c_l3;
               w2c_i0 = (u32)(w2c_j0);
               w2c_j1 = w2c_l6;
-              i64_store(&instance->w2c_memory, (u64)(w2c_i0) + 960, w2c_j1);
+              i64_store(&instance->w2c_memory, (u64)(w2c_i0) + 896, w2c_j1);
               w2c_j0 = w2c_l3;
               w2c_i0 = (u32)(w2c_j0);
               w2c_j1 = w2c_l10;
-              i64_store(&instance->w2c_memory, (u64)(w2c_i0) + 952, w2c_j1);
+              i64_store(&instance->w2c_memory, (u64)(w2c_i0) + 888, w2c_j1);
               w2c_j0 = w2c_l3;
               w2c_i0 = (u32)(w2c_j0);
               w2c_j1 = w2c_l7;
@@ -12678,7 +12662,7 @@ static void w2c_f9(Z_dine_ffi_instance_t* instance, u64 w2c_p0, u64 w2c_p1, u64 
               w2c_j1 = w2c_l5;
               i64_store(&instance->w2c_memory, (u64)(w2c_i0) + 520, w2c_j1);
               w2c_j0 = w2c_l3;
-              w2c_j1 = 952ull;
+              w2c_j1 = 888ull;
               w2c_j0 += w2c_j1;
               w2c_j1 = w2c_l3;
               w2c_j2 = 520ull;
@@ -12693,8 +12677,8 @@ static void w2c_f9(Z_dine_ffi_instance_t* instance, u64 w2c_p0, u64 w2c_p1, u64 
                 w2c_i0 = w2c_l41;
                 w2c_i1 = 1u;
                 w2c_i0 -= w2c_i1;
-                if (w2c_i0) {goto w2c_B332;}
-                goto w2c_B330;
+                if (w2c_i0) {goto w2c_B337;}
+                goto w2c_B335;
               }
               w2c_j0 = w2c_l4;
               w2c_j1 = 16ull;
@@ -12710,10 +12694,10 @@ static void w2c_f9(Z_dine_ffi_instance_t* instance, u64 w2c_p0, u64 w2c_p1, u64 
               w2c_j1 += w2c_j2;
               w2c_p1 = w2c_j1;
               w2c_i0 = w2c_j0 != w2c_j1;
-              if (w2c_i0) {goto w2c_L333;}
+              if (w2c_i0) {goto w2c_L338;}
             w2c_j0 = w2c_p2;
             w2c_p1 = w2c_j0;
-            w2c_B332:;
+            w2c_B337:;
             w2c_j0 = w2c_p1;
             w2c_j1 = 3ull;
             w2c_j0 <<= (w2c_j1 & 63);
@@ -12726,7 +12710,7 @@ static void w2c_f9(Z_dine_ffi_instance_t* instance, u64 w2c_p0, u64 w2c_p1, u64 
           w2c_i1 = (u32)(w2c_j1);
           w2c_i1 = i32_load16_u(&instance->w2c_memory, (u64)(w2c_i1));
           w2c_i1 = !(w2c_i1);
-          if (w2c_i1) {goto w2c_B328;}
+          if (w2c_i1) {goto w2c_B333;}
           w2c_j0 = w2c_l4;
           w2c_j1 = w2c_l9;
           w2c_j0 += w2c_j1;
@@ -12735,12 +12719,12 @@ static void w2c_f9(Z_dine_ffi_instance_t* instance, u64 w2c_p0, u64 w2c_p1, u64 
           w2c_i0 = (u32)(w2c_j0);
           w2c_j0 = i64_load(&instance->w2c_memory, (u64)(w2c_i0));
           w2c_l9 = w2c_j0;
-          goto w2c_L329;
-          w2c_B330:;
+          goto w2c_L334;
+          w2c_B335:;
         w2c_j0 = w2c_l8;
         w2c_i0 = (u32)(w2c_j0);
         w2c_i0 = i32_load(&instance->w2c_memory, (u64)(w2c_i0));
-        w2c_B328:;
+        w2c_B333:;
         w2c_l43 = w2c_i0;
         w2c_j0 = w2c_l3;
         w2c_j1 = 56ull;
@@ -12758,7 +12742,7 @@ static void w2c_f9(Z_dine_ffi_instance_t* instance, u64 w2c_p0, u64 w2c_p1, u64 
         w2c_l10 = w2c_j0;
         w2c_j0 = w2c_l12;
         w2c_l9 = w2c_j0;
-        w2c_L335: 
+        w2c_L340: 
           w2c_j0 = w2c_l9;
           w2c_i0 = (u32)(w2c_j0);
           w2c_j0 = i64_load16_u(&instance->w2c_memory, (u64)(w2c_i0));
@@ -12777,7 +12761,7 @@ static void w2c_f9(Z_dine_ffi_instance_t* instance, u64 w2c_p0, u64 w2c_p1, u64 
             w2c_l8 = w2c_j0;
             w2c_j0 = 0ull;
             w2c_p1 = w2c_j0;
-            w2c_L339: 
+            w2c_L344: 
               w2c_j0 = w2c_l4;
               w2c_j1 = 8ull;
               w2c_j0 -= w2c_j1;
@@ -12791,11 +12775,11 @@ static void w2c_f9(Z_dine_ffi_instance_t* instance, u64 w2c_p0, u64 w2c_p1, u64 
               w2c_j0 = w2c_l3;
               w2c_i0 = (u32)(w2c_j0);
               w2c_j1 = w2c_l6;
-              i64_store(&instance->w2c_memory, (u64)(w2c_i0) + 960, w2c_j1);
+              i64_store(&instance->w2c_memory, (u64)(w2c_i0) + 896, w2c_j1);
               w2c_j0 = w2c_l3;
               w2c_i0 = (u32)(w2c_j0);
               w2c_j1 = w2c_l10;
-              i64_store(&instance->w2c_memory, (u64)(w2c_i0) + 952, w2c_j1);
+              i64_store(&instance->w2c_memory, (u64)(w2c_i0) + 888, w2c_j1);
               w2c_j0 = w2c_l3;
               w2c_i0 = (u32)(w2c_j0);
               w2c_j1 = w2c_l7;
@@ -12805,7 +12789,7 @@ static void w2c_f9(Z_dine_ffi_instance_t* instance, u64 w2c_p0, u64 w2c_p1, u64 
               w2c_j1 = w2c_l5;
               i64_store(&instance->w2c_memory, (u64)(w2c_i0) + 520, w2c_j1);
               w2c_j0 = w2c_l3;
-              w2c_j1 = 952ull;
+              w2c_j1 = 888ull;
               w2c_j0 += w2c_j1;
               w2c_j1 = w2c_l3;
               w2c_j2 = 520ull;
@@ -12820,8 +12804,8 @@ static void w2c_f9(Z_dine_ffi_instance_t* instance, u64 w2c_p0, u64 w2c_p1, u64 
                 w2c_i0 = w2c_l41;
                 w2c_i1 = 1u;
                 w2c_i0 -= w2c_i1;
-                if (w2c_i0) {goto w2c_B338;}
-                goto w2c_B336;
+                if (w2c_i0) {goto w2c_B343;}
+                goto w2c_B341;
               }
               w2c_j0 = w2c_l4;
               w2c_j1 = 16ull;
@@ -12837,10 +12821,10 @@ static void w2c_f9(Z_dine_ffi_instance_t* instance, u64 w2c_p0, u64 w2c_p1, u64 
               w2c_j1 += w2c_j2;
               w2c_p1 = w2c_j1;
               w2c_i0 = w2c_j0 != w2c_j1;
-              if (w2c_i0) {goto w2c_L339;}
+              if (w2c_i0) {goto w2c_L344;}
             w2c_j0 = w2c_p2;
             w2c_p1 = w2c_j0;
-            w2c_B338:;
+            w2c_B343:;
             w2c_j0 = w2c_p1;
             w2c_j1 = 3ull;
             w2c_j0 <<= (w2c_j1 & 63);
@@ -12853,7 +12837,7 @@ static void w2c_f9(Z_dine_ffi_instance_t* instance, u64 w2c_p0, u64 w2c_p1, u64 
           w2c_i1 = (u32)(w2c_j1);
           w2c_i1 = i32_load16_u(&instance->w2c_memory, (u64)(w2c_i1));
           w2c_i1 = !(w2c_i1);
-          if (w2c_i1) {goto w2c_B326;}
+          if (w2c_i1) {goto w2c_B331;}
           w2c_j0 = w2c_l4;
           w2c_j1 = w2c_l9;
           w2c_j0 += w2c_j1;
@@ -12862,12 +12846,12 @@ static void w2c_f9(Z_dine_ffi_instance_t* instance, u64 w2c_p0, u64 w2c_p1, u64 
           w2c_i0 = (u32)(w2c_j0);
           w2c_j0 = i64_load(&instance->w2c_memory, (u64)(w2c_i0));
           w2c_l9 = w2c_j0;
-          goto w2c_L335;
-          w2c_B336:;
+          goto w2c_L340;
+          w2c_B341:;
         w2c_j0 = w2c_l8;
         w2c_i0 = (u32)(w2c_j0);
         w2c_i0 = i32_load(&instance->w2c_memory, (u64)(w2c_i0));
-        goto w2c_B326;
+        goto w2c_B331;
       }
       w2c_j0 = w2c_l3;
       w2c_j1 = 40ull;
@@ -12878,7 +12862,7 @@ static void w2c_f9(Z_dine_ffi_instance_t* instance, u64 w2c_p0, u64 w2c_p1, u64 
       w2c_i0 = 0u;
       w2c_l43 = w2c_i0;
       w2c_i0 = 0u;
-      w2c_B326:;
+      w2c_B331:;
       w2c_l42 = w2c_i0;
       w2c_j0 = 0ull;
       w2c_l10 = w2c_j0;
@@ -12887,7 +12871,7 @@ static void w2c_f9(Z_dine_ffi_instance_t* instance, u64 w2c_p0, u64 w2c_p1, u64 
       w2c_i0 = i32_load8_u(&instance->w2c_memory, (u64)(w2c_i0));
       w2c_i1 = 6u;
       w2c_i0 = w2c_i0 != w2c_i1;
-      if (w2c_i0) {goto w2c_B341;}
+      if (w2c_i0) {goto w2c_B346;}
       w2c_j0 = w2c_l11;
       w2c_j1 = 8ull;
       w2c_j0 += w2c_j1;
@@ -12895,12 +12879,12 @@ static void w2c_f9(Z_dine_ffi_instance_t* instance, u64 w2c_p0, u64 w2c_p1, u64 
       w2c_i0 = i32_load8_u(&instance->w2c_memory, (u64)(w2c_i0));
       w2c_i1 = 1u;
       w2c_i0 = w2c_i0 != w2c_i1;
-      if (w2c_i0) {goto w2c_B341;}
+      if (w2c_i0) {goto w2c_B346;}
       w2c_j0 = w2c_l11;
       w2c_j1 = 16ull;
       w2c_j0 += w2c_j1;
       w2c_p1 = w2c_j0;
-      w2c_L342: 
+      w2c_L347: 
         w2c_j0 = 0ull;
         w2c_l4 = w2c_j0;
         w2c_j0 = w2c_p1;
@@ -12923,7 +12907,7 @@ static void w2c_f9(Z_dine_ffi_instance_t* instance, u64 w2c_p0, u64 w2c_p1, u64 
           w2c_l5 = w2c_j0;
           w2c_j0 = 0ull;
           w2c_p1 = w2c_j0;
-          w2c_L346: 
+          w2c_L351: 
             w2c_j0 = w2c_l4;
             w2c_j1 = 8ull;
             w2c_j0 -= w2c_j1;
@@ -12937,11 +12921,11 @@ static void w2c_f9(Z_dine_ffi_instance_t* instance, u64 w2c_p0, u64 w2c_p1, u64 
             w2c_j0 = w2c_l3;
             w2c_i0 = (u32)(w2c_j0);
             w2c_j1 = 5ull;
-            i64_store(&instance->w2c_memory, (u64)(w2c_i0) + 960, w2c_j1);
+            i64_store(&instance->w2c_memory, (u64)(w2c_i0) + 896, w2c_j1);
             w2c_j0 = w2c_l3;
             w2c_i0 = (u32)(w2c_j0);
             w2c_j1 = 1059780ull;
-            i64_store(&instance->w2c_memory, (u64)(w2c_i0) + 952, w2c_j1);
+            i64_store(&instance->w2c_memory, (u64)(w2c_i0) + 888, w2c_j1);
             w2c_j0 = w2c_l3;
             w2c_i0 = (u32)(w2c_j0);
             w2c_j1 = w2c_l8;
@@ -12951,7 +12935,7 @@ static void w2c_f9(Z_dine_ffi_instance_t* instance, u64 w2c_p0, u64 w2c_p1, u64 
             w2c_j1 = w2c_l7;
             i64_store(&instance->w2c_memory, (u64)(w2c_i0) + 520, w2c_j1);
             w2c_j0 = w2c_l3;
-            w2c_j1 = 952ull;
+            w2c_j1 = 888ull;
             w2c_j0 += w2c_j1;
             w2c_j1 = w2c_l3;
             w2c_j2 = 520ull;
@@ -12966,8 +12950,8 @@ static void w2c_f9(Z_dine_ffi_instance_t* instance, u64 w2c_p0, u64 w2c_p1, u64 
               w2c_i0 = w2c_l41;
               w2c_i1 = 1u;
               w2c_i0 -= w2c_i1;
-              if (w2c_i0) {goto w2c_B345;}
-              goto w2c_B343;
+              if (w2c_i0) {goto w2c_B350;}
+              goto w2c_B348;
             }
             w2c_j0 = w2c_l4;
             w2c_j1 = 24ull;
@@ -12983,10 +12967,10 @@ static void w2c_f9(Z_dine_ffi_instance_t* instance, u64 w2c_p0, u64 w2c_p1, u64 
             w2c_j1 += w2c_j2;
             w2c_p1 = w2c_j1;
             w2c_i0 = w2c_j0 != w2c_j1;
-            if (w2c_i0) {goto w2c_L346;}
+            if (w2c_i0) {goto w2c_L351;}
           w2c_j0 = w2c_p2;
           w2c_p1 = w2c_j0;
-          w2c_B345:;
+          w2c_B350:;
           w2c_j0 = w2c_p1;
           w2c_j1 = 3ull;
           w2c_j0 <<= (w2c_j1 & 63);
@@ -12998,15 +12982,15 @@ static void w2c_f9(Z_dine_ffi_instance_t* instance, u64 w2c_p0, u64 w2c_p1, u64 
         w2c_i0 = (u32)(w2c_j0);
         w2c_i0 = i32_load16_u(&instance->w2c_memory, (u64)(w2c_i0));
         w2c_i0 = !(w2c_i0);
-        if (w2c_i0) {goto w2c_B341;}
+        if (w2c_i0) {goto w2c_B346;}
         w2c_j0 = w2c_l4;
         w2c_j1 = w2c_l6;
         w2c_j0 += w2c_j1;
         w2c_j1 = 968ull;
         w2c_j0 += w2c_j1;
         w2c_p1 = w2c_j0;
-        goto w2c_L342;
-        w2c_B343:;
+        goto w2c_L347;
+        w2c_B348:;
       w2c_j0 = 0ull;
       w2c_l4 = w2c_j0;
       w2c_j0 = w2c_l5;
@@ -13035,7 +13019,7 @@ static void w2c_f9(Z_dine_ffi_instance_t* instance, u64 w2c_p0, u64 w2c_p1, u64 
       w2c_i2 = w2c_i2 == w2c_i3;
       w2c_j0 = w2c_i2 ? w2c_j0 : w2c_j1;
       w2c_l10 = w2c_j0;
-      w2c_B341:;
+      w2c_B346:;
       w2c_j0 = w2c_l30;
       w2c_j1 = w2c_l3;
       w2c_i1 = (u32)(w2c_j1);
@@ -13047,7 +13031,7 @@ static void w2c_f9(Z_dine_ffi_instance_t* instance, u64 w2c_p0, u64 w2c_p1, u64 
         w2c_j0 += w2c_j1;
         w2c_i0 = w2c_f29(instance, w2c_j0);
         w2c_i0 = !(w2c_i0);
-        if (w2c_i0) {goto w2c_B323;}
+        if (w2c_i0) {goto w2c_B328;}
         w2c_j0 = w2c_l3;
         w2c_i0 = (u32)(w2c_j0);
         w2c_j0 = i64_load(&instance->w2c_memory, (u64)(w2c_i0) + 592u);
@@ -13087,16 +13071,16 @@ static void w2c_f9(Z_dine_ffi_instance_t* instance, u64 w2c_p0, u64 w2c_p1, u64 
       w2c_l14 = w2c_j0;
       w2c_j1 = w2c_l28;
       w2c_i0 = w2c_j0 != w2c_j1;
-      if (w2c_i0) {goto w2c_L325;}
+      if (w2c_i0) {goto w2c_L330;}
   }
   w2c_i0 = 1u;
   w2c_l41 = w2c_i0;
   w2c_i0 = w2c_l45;
-  if (w2c_i0) {goto w2c_B217;}
+  if (w2c_i0) {goto w2c_B222;}
   w2c_j0 = w2c_l12;
   w2c_f27(instance, w2c_j0);
-  goto w2c_B217;
-  w2c_B323:;
+  goto w2c_B222;
+  w2c_B328:;
   w2c_j0 = w2c_l3;
   w2c_i0 = (u32)(w2c_j0);
   w2c_j0 = i64_load(&instance->w2c_memory, (u64)(w2c_i0) + 600u);
@@ -13109,25 +13093,25 @@ static void w2c_f9(Z_dine_ffi_instance_t* instance, u64 w2c_p0, u64 w2c_p1, u64 
     w2c_leave(instance, w2c_j0);
   }
   w2c_i0 = w2c_l45;
-  if (w2c_i0) {goto w2c_B255;}
+  if (w2c_i0) {goto w2c_B260;}
   w2c_j0 = w2c_l12;
   w2c_f27(instance, w2c_j0);
-  w2c_B255:;
+  w2c_B260:;
   w2c_j0 = w2c_l25;
   w2c_f22(instance, w2c_j0);
-  goto w2c_B216;
-  w2c_B254:;
+  goto w2c_B221;
+  w2c_B259:;
   UNREACHABLE;
-  w2c_B253:;
+  w2c_B258:;
   w2c_j0 = w2c_l17;
   w2c_l5 = w2c_j0;
-  w2c_B252:;
+  w2c_B257:;
   w2c_j0 = w2c_l5;
   w2c_f27(instance, w2c_j0);
   w2c_j0 = w2c_l25;
   w2c_f22(instance, w2c_j0);
-  goto w2c_B216;
-  w2c_B218:;
+  goto w2c_B221;
+  w2c_B223:;
   w2c_j0 = w2c_l3;
   w2c_i0 = (u32)(w2c_j0);
   w2c_j1 = 0ull;
@@ -13139,10 +13123,10 @@ static void w2c_f9(Z_dine_ffi_instance_t* instance, u64 w2c_p0, u64 w2c_p1, u64 
   w2c_j0 = w2c_l3;
   w2c_i0 = (u32)(w2c_j0);
   w2c_j1 = w2c_l3;
-  w2c_j2 = 1384ull;
+  w2c_j2 = 1320ull;
   w2c_j1 += w2c_j2;
   i64_store(&instance->w2c_memory, (u64)(w2c_i0) + 584, w2c_j1);
-  w2c_B217:;
+  w2c_B222:;
   w2c_j0 = w2c_l3;
   w2c_i0 = (u32)(w2c_j0);
   w2c_j0 = i64_load(&instance->w2c_memory, (u64)(w2c_i0) + 600u);
@@ -13157,14 +13141,14 @@ static void w2c_f9(Z_dine_ffi_instance_t* instance, u64 w2c_p0, u64 w2c_p1, u64 
   w2c_i1 = w2c_l44;
   w2c_i2 = 6u;
   w2c_i1 = w2c_i1 != w2c_i2;
-  if (w2c_i1) {goto w2c_B351;}
+  if (w2c_i1) {goto w2c_B356;}
   w2c_i0 = 0u;
   w2c_i1 = w2c_l41;
   w2c_i1 = !(w2c_i1);
-  if (w2c_i1) {goto w2c_B351;}
+  if (w2c_i1) {goto w2c_B356;}
   w2c_j0 = w2c_l25;
   w2c_l6 = w2c_j0;
-  w2c_L352: 
+  w2c_L357: 
     w2c_j0 = w2c_l6;
     w2c_i0 = (u32)(w2c_j0);
     w2c_j0 = i64_load16_u(&instance->w2c_memory, (u64)(w2c_i0));
@@ -13183,7 +13167,7 @@ static void w2c_f9(Z_dine_ffi_instance_t* instance, u64 w2c_p0, u64 w2c_p1, u64 
       w2c_l5 = w2c_j0;
       w2c_j0 = 0ull;
       w2c_p1 = w2c_j0;
-      w2c_L356: 
+      w2c_L361: 
         w2c_j0 = w2c_l4;
         w2c_j1 = 8ull;
         w2c_j0 -= w2c_j1;
@@ -13197,11 +13181,11 @@ static void w2c_f9(Z_dine_ffi_instance_t* instance, u64 w2c_p0, u64 w2c_p1, u64 
         w2c_j0 = w2c_l3;
         w2c_i0 = (u32)(w2c_j0);
         w2c_j1 = 7ull;
-        i64_store(&instance->w2c_memory, (u64)(w2c_i0) + 960, w2c_j1);
+        i64_store(&instance->w2c_memory, (u64)(w2c_i0) + 896, w2c_j1);
         w2c_j0 = w2c_l3;
         w2c_i0 = (u32)(w2c_j0);
         w2c_j1 = 1059632ull;
-        i64_store(&instance->w2c_memory, (u64)(w2c_i0) + 952, w2c_j1);
+        i64_store(&instance->w2c_memory, (u64)(w2c_i0) + 888, w2c_j1);
         w2c_j0 = w2c_l3;
         w2c_i0 = (u32)(w2c_j0);
         w2c_j1 = w2c_l8;
@@ -13211,7 +13195,7 @@ static void w2c_f9(Z_dine_ffi_instance_t* instance, u64 w2c_p0, u64 w2c_p1, u64 
         w2c_j1 = w2c_l7;
         i64_store(&instance->w2c_memory, (u64)(w2c_i0) + 584, w2c_j1);
         w2c_j0 = w2c_l3;
-        w2c_j1 = 952ull;
+        w2c_j1 = 888ull;
         w2c_j0 += w2c_j1;
         w2c_j1 = w2c_l3;
         w2c_j2 = 584ull;
@@ -13226,8 +13210,8 @@ static void w2c_f9(Z_dine_ffi_instance_t* instance, u64 w2c_p0, u64 w2c_p1, u64 
           w2c_i0 = w2c_l41;
           w2c_i1 = 1u;
           w2c_i0 -= w2c_i1;
-          if (w2c_i0) {goto w2c_B355;}
-          goto w2c_B353;
+          if (w2c_i0) {goto w2c_B360;}
+          goto w2c_B358;
         }
         w2c_j0 = w2c_l4;
         w2c_j1 = 24ull;
@@ -13243,10 +13227,10 @@ static void w2c_f9(Z_dine_ffi_instance_t* instance, u64 w2c_p0, u64 w2c_p1, u64 
         w2c_j1 += w2c_j2;
         w2c_p1 = w2c_j1;
         w2c_i0 = w2c_j0 != w2c_j1;
-        if (w2c_i0) {goto w2c_L356;}
+        if (w2c_i0) {goto w2c_L361;}
       w2c_j0 = w2c_p2;
       w2c_p1 = w2c_j0;
-      w2c_B355:;
+      w2c_B360:;
       w2c_j0 = w2c_p1;
       w2c_j1 = 3ull;
       w2c_j0 <<= (w2c_j1 & 63);
@@ -13259,7 +13243,7 @@ static void w2c_f9(Z_dine_ffi_instance_t* instance, u64 w2c_p0, u64 w2c_p1, u64 
     w2c_i1 = (u32)(w2c_j1);
     w2c_i1 = i32_load16_u(&instance->w2c_memory, (u64)(w2c_i1));
     w2c_i1 = !(w2c_i1);
-    if (w2c_i1) {goto w2c_B351;}
+    if (w2c_i1) {goto w2c_B356;}
     w2c_j0 = w2c_l4;
     w2c_j1 = w2c_l6;
     w2c_j0 += w2c_j1;
@@ -13268,8 +13252,8 @@ static void w2c_f9(Z_dine_ffi_instance_t* instance, u64 w2c_p0, u64 w2c_p1, u64 
     w2c_i0 = (u32)(w2c_j0);
     w2c_j0 = i64_load(&instance->w2c_memory, (u64)(w2c_i0));
     w2c_l6 = w2c_j0;
-    goto w2c_L352;
-    w2c_B353:;
+    goto w2c_L357;
+    w2c_B358:;
   w2c_j0 = w2c_l5;
   w2c_j1 = 8ull;
   w2c_j0 -= w2c_j1;
@@ -13291,92 +13275,44 @@ static void w2c_f9(Z_dine_ffi_instance_t* instance, u64 w2c_p0, u64 w2c_p1, u64 
   w2c_i2 = 1u;
   w2c_i1 = w2c_i1 == w2c_i2;
   w2c_i0 &= w2c_i1;
-  w2c_B351:;
+  w2c_B356:;
   w2c_l61 = w2c_i0;
   w2c_j0 = w2c_l3;
   w2c_i0 = (u32)(w2c_j0);
   w2c_i1 = w2c_l47;
-  i32_store(&instance->w2c_memory, (u64)(w2c_i0) + 856, w2c_i1);
+  i32_store(&instance->w2c_memory, (u64)(w2c_i0) + 824, w2c_i1);
   w2c_j0 = w2c_l3;
   w2c_i0 = (u32)(w2c_j0);
   w2c_j1 = w2c_l27;
-  i64_store(&instance->w2c_memory, (u64)(w2c_i0) + 848, w2c_j1);
+  i64_store(&instance->w2c_memory, (u64)(w2c_i0) + 816, w2c_j1);
   w2c_j0 = w2c_l3;
   w2c_i0 = (u32)(w2c_j0);
   w2c_j1 = w2c_l25;
-  i64_store(&instance->w2c_memory, (u64)(w2c_i0) + 840, w2c_j1);
+  i64_store(&instance->w2c_memory, (u64)(w2c_i0) + 808, w2c_j1);
   w2c_j0 = w2c_l3;
   w2c_i0 = (u32)(w2c_j0);
   w2c_j1 = w2c_l19;
-  i64_store(&instance->w2c_memory, (u64)(w2c_i0) + 832, w2c_j1);
+  i64_store(&instance->w2c_memory, (u64)(w2c_i0) + 800, w2c_j1);
   w2c_j0 = w2c_l3;
   w2c_i0 = (u32)(w2c_j0);
   w2c_i1 = w2c_l50;
-  i32_store(&instance->w2c_memory, (u64)(w2c_i0) + 828, w2c_i1);
+  i32_store(&instance->w2c_memory, (u64)(w2c_i0) + 796, w2c_i1);
   w2c_j0 = w2c_l3;
   w2c_i0 = (u32)(w2c_j0);
   w2c_i1 = w2c_l57;
-  i32_store8(&instance->w2c_memory, (u64)(w2c_i0) + 825, w2c_i1);
+  i32_store8(&instance->w2c_memory, (u64)(w2c_i0) + 793, w2c_i1);
   w2c_j0 = w2c_l3;
   w2c_i0 = (u32)(w2c_j0);
   w2c_i1 = w2c_l44;
-  i32_store8(&instance->w2c_memory, (u64)(w2c_i0) + 824, w2c_i1);
+  i32_store8(&instance->w2c_memory, (u64)(w2c_i0) + 792, w2c_i1);
   w2c_j0 = w2c_l3;
-  w2c_j1 = 864ull;
+  w2c_j1 = 832ull;
   w2c_j0 += w2c_j1;
   w2c_j1 = w2c_l3;
-  w2c_j2 = 824ull;
+  w2c_j2 = 792ull;
   w2c_j1 += w2c_j2;
   w2c_j2 = 1059624ull;
   w2c_f30(instance, w2c_j0, w2c_j1, w2c_j2);
-  w2c_j0 = w2c_l3;
-  w2c_i0 = (u32)(w2c_j0);
-  w2c_j1 = 0ull;
-  i64_store(&instance->w2c_memory, (u64)(w2c_i0) + 1152, w2c_j1);
-  w2c_j0 = w2c_l3;
-  w2c_i0 = (u32)(w2c_j0);
-  w2c_j1 = 0ull;
-  i64_store(&instance->w2c_memory, (u64)(w2c_i0) + 1160, w2c_j1);
-  w2c_j0 = w2c_l3;
-  w2c_i0 = (u32)(w2c_j0);
-  w2c_j1 = 0ull;
-  i64_store(&instance->w2c_memory, (u64)(w2c_i0) + 1168, w2c_j1);
-  w2c_j0 = w2c_l3;
-  w2c_i0 = (u32)(w2c_j0);
-  w2c_j1 = 0ull;
-  i64_store(&instance->w2c_memory, (u64)(w2c_i0) + 1176, w2c_j1);
-  w2c_j0 = w2c_l3;
-  w2c_i0 = (u32)(w2c_j0);
-  w2c_j1 = 0ull;
-  i64_store(&instance->w2c_memory, (u64)(w2c_i0) + 1184, w2c_j1);
-  w2c_j0 = w2c_l3;
-  w2c_i0 = (u32)(w2c_j0);
-  w2c_j1 = 0ull;
-  i64_store(&instance->w2c_memory, (u64)(w2c_i0) + 1112, w2c_j1);
-  w2c_j0 = w2c_l3;
-  w2c_i0 = (u32)(w2c_j0);
-  w2c_j1 = 0ull;
-  i64_store(&instance->w2c_memory, (u64)(w2c_i0) + 1120, w2c_j1);
-  w2c_j0 = w2c_l3;
-  w2c_i0 = (u32)(w2c_j0);
-  w2c_j1 = 0ull;
-  i64_store(&instance->w2c_memory, (u64)(w2c_i0) + 1128, w2c_j1);
-  w2c_j0 = w2c_l3;
-  w2c_i0 = (u32)(w2c_j0);
-  w2c_j1 = 0ull;
-  i64_store(&instance->w2c_memory, (u64)(w2c_i0) + 1136, w2c_j1);
-  w2c_j0 = w2c_l3;
-  w2c_i0 = (u32)(w2c_j0);
-  w2c_j1 = 0ull;
-  i64_store(&instance->w2c_memory, (u64)(w2c_i0) + 1144, w2c_j1);
-  w2c_j0 = w2c_l3;
-  w2c_i0 = (u32)(w2c_j0);
-  w2c_j1 = 0ull;
-  i64_store(&instance->w2c_memory, (u64)(w2c_i0) + 1072, w2c_j1);
-  w2c_j0 = w2c_l3;
-  w2c_i0 = (u32)(w2c_j0);
-  w2c_j1 = 0ull;
-  i64_store(&instance->w2c_memory, (u64)(w2c_i0) + 1080, w2c_j1);
   w2c_j0 = w2c_l3;
   w2c_i0 = (u32)(w2c_j0);
   w2c_j1 = 0ull;
@@ -13391,24 +13327,12 @@ static void w2c_f9(Z_dine_ffi_instance_t* instance, u64 w2c_p0, u64 w2c_p1, u64 
   i64_store(&instance->w2c_memory, (u64)(w2c_i0) + 1104, w2c_j1);
   w2c_j0 = w2c_l3;
   w2c_i0 = (u32)(w2c_j0);
-  w2c_j0 = i64_load(&instance->w2c_memory, (u64)(w2c_i0) + 864u);
-  w2c_l34 = w2c_j0;
-  w2c_j0 = w2c_l3;
-  w2c_i0 = (u32)(w2c_j0);
-  w2c_j0 = i64_load(&instance->w2c_memory, (u64)(w2c_i0) + 880u);
-  w2c_l40 = w2c_j0;
-  w2c_j0 = w2c_l3;
-  w2c_i0 = (u32)(w2c_j0);
-  w2c_j0 = i64_load(&instance->w2c_memory, (u64)(w2c_i0) + 872u);
-  w2c_l39 = w2c_j0;
+  w2c_j1 = 0ull;
+  i64_store(&instance->w2c_memory, (u64)(w2c_i0) + 1112, w2c_j1);
   w2c_j0 = w2c_l3;
   w2c_i0 = (u32)(w2c_j0);
   w2c_j1 = 0ull;
-  i64_store(&instance->w2c_memory, (u64)(w2c_i0) + 1064, w2c_j1);
-  w2c_j0 = w2c_l3;
-  w2c_i0 = (u32)(w2c_j0);
-  w2c_j1 = 0ull;
-  i64_store(&instance->w2c_memory, (u64)(w2c_i0) + 1056, w2c_j1);
+  i64_store(&instance->w2c_memory, (u64)(w2c_i0) + 1120, w2c_j1);
   w2c_j0 = w2c_l3;
   w2c_i0 = (u32)(w2c_j0);
   w2c_j1 = 0ull;
@@ -13416,7 +13340,31 @@ static void w2c_f9(Z_dine_ffi_instance_t* instance, u64 w2c_p0, u64 w2c_p1, u64 
   w2c_j0 = w2c_l3;
   w2c_i0 = (u32)(w2c_j0);
   w2c_j1 = 0ull;
-  i64_store(&instance->w2c_memory, (u64)(w2c_i0) + 1040, w2c_j1);
+  i64_store(&instance->w2c_memory, (u64)(w2c_i0) + 1056, w2c_j1);
+  w2c_j0 = w2c_l3;
+  w2c_i0 = (u32)(w2c_j0);
+  w2c_j1 = 0ull;
+  i64_store(&instance->w2c_memory, (u64)(w2c_i0) + 1064, w2c_j1);
+  w2c_j0 = w2c_l3;
+  w2c_i0 = (u32)(w2c_j0);
+  w2c_j1 = 0ull;
+  i64_store(&instance->w2c_memory, (u64)(w2c_i0) + 1072, w2c_j1);
+  w2c_j0 = w2c_l3;
+  w2c_i0 = (u32)(w2c_j0);
+  w2c_j1 = 0ull;
+  i64_store(&instance->w2c_memory, (u64)(w2c_i0) + 1080, w2c_j1);
+  w2c_j0 = w2c_l3;
+  w2c_i0 = (u32)(w2c_j0);
+  w2c_j1 = 0ull;
+  i64_store(&instance->w2c_memory, (u64)(w2c_i0) + 1008, w2c_j1);
+  w2c_j0 = w2c_l3;
+  w2c_i0 = (u32)(w2c_j0);
+  w2c_j1 = 0ull;
+  i64_store(&instance->w2c_memory, (u64)(w2c_i0) + 1016, w2c_j1);
+  w2c_j0 = w2c_l3;
+  w2c_i0 = (u32)(w2c_j0);
+  w2c_j1 = 0ull;
+  i64_store(&instance->w2c_memory, (u64)(w2c_i0) + 1024, w2c_j1);
   w2c_j0 = w2c_l3;
   w2c_i0 = (u32)(w2c_j0);
   w2c_j1 = 0ull;
@@ -13424,17 +13372,53 @@ static void w2c_f9(Z_dine_ffi_instance_t* instance, u64 w2c_p0, u64 w2c_p1, u64 
   w2c_j0 = w2c_l3;
   w2c_i0 = (u32)(w2c_j0);
   w2c_j1 = 0ull;
-  i64_store(&instance->w2c_memory, (u64)(w2c_i0) + 1200, w2c_j1);
+  i64_store(&instance->w2c_memory, (u64)(w2c_i0) + 1040, w2c_j1);
+  w2c_j0 = w2c_l3;
+  w2c_i0 = (u32)(w2c_j0);
+  w2c_j0 = i64_load(&instance->w2c_memory, (u64)(w2c_i0) + 832u);
+  w2c_l34 = w2c_j0;
+  w2c_j0 = w2c_l3;
+  w2c_i0 = (u32)(w2c_j0);
+  w2c_j0 = i64_load(&instance->w2c_memory, (u64)(w2c_i0) + 848u);
+  w2c_l40 = w2c_j0;
+  w2c_j0 = w2c_l3;
+  w2c_i0 = (u32)(w2c_j0);
+  w2c_j0 = i64_load(&instance->w2c_memory, (u64)(w2c_i0) + 840u);
+  w2c_l39 = w2c_j0;
   w2c_j0 = w2c_l3;
   w2c_i0 = (u32)(w2c_j0);
   w2c_j1 = 0ull;
-  i64_store(&instance->w2c_memory, (u64)(w2c_i0) + 1208, w2c_j1);
+  i64_store(&instance->w2c_memory, (u64)(w2c_i0) + 1000, w2c_j1);
+  w2c_j0 = w2c_l3;
+  w2c_i0 = (u32)(w2c_j0);
+  w2c_j1 = 0ull;
+  i64_store(&instance->w2c_memory, (u64)(w2c_i0) + 992, w2c_j1);
+  w2c_j0 = w2c_l3;
+  w2c_i0 = (u32)(w2c_j0);
+  w2c_j1 = 0ull;
+  i64_store(&instance->w2c_memory, (u64)(w2c_i0) + 984, w2c_j1);
+  w2c_j0 = w2c_l3;
+  w2c_i0 = (u32)(w2c_j0);
+  w2c_j1 = 0ull;
+  i64_store(&instance->w2c_memory, (u64)(w2c_i0) + 976, w2c_j1);
+  w2c_j0 = w2c_l3;
+  w2c_i0 = (u32)(w2c_j0);
+  w2c_j1 = 0ull;
+  i64_store(&instance->w2c_memory, (u64)(w2c_i0) + 968, w2c_j1);
+  w2c_j0 = w2c_l3;
+  w2c_i0 = (u32)(w2c_j0);
+  w2c_j1 = 0ull;
+  i64_store(&instance->w2c_memory, (u64)(w2c_i0) + 1136, w2c_j1);
+  w2c_j0 = w2c_l3;
+  w2c_i0 = (u32)(w2c_j0);
+  w2c_j1 = 0ull;
+  i64_store(&instance->w2c_memory, (u64)(w2c_i0) + 1144, w2c_j1);
   w2c_j0 = w2c_l3;
   w2c_i0 = (u32)(w2c_j0);
   w2c_j1 = w2c_l3;
-  w2c_j2 = 1384ull;
+  w2c_j2 = 1320ull;
   w2c_j1 += w2c_j2;
-  i64_store(&instance->w2c_memory, (u64)(w2c_i0) + 1192, w2c_j1);
+  i64_store(&instance->w2c_memory, (u64)(w2c_i0) + 1128, w2c_j1);
   w2c_j0 = w2c_l39;
   w2c_i0 = !(w2c_j0);
   if (w2c_i0) {
@@ -13455,11 +13439,11 @@ static void w2c_f9(Z_dine_ffi_instance_t* instance, u64 w2c_p0, u64 w2c_p1, u64 
     w2c_j0 += w2c_j1;
     w2c_l19 = w2c_j0;
     w2c_j0 = w2c_l3;
-    w2c_j1 = 1168ull;
+    w2c_j1 = 1104ull;
     w2c_j0 += w2c_j1;
     w2c_l33 = w2c_j0;
     w2c_j0 = w2c_l3;
-    w2c_j1 = 1152ull;
+    w2c_j1 = 1088ull;
     w2c_j0 += w2c_j1;
     w2c_j1 = 4ull;
     w2c_j0 |= w2c_j1;
@@ -13472,7 +13456,7 @@ static void w2c_f9(Z_dine_ffi_instance_t* instance, u64 w2c_p0, u64 w2c_p1, u64 
     w2c_l24 = w2c_j0;
     w2c_j0 = w2c_l39;
     w2c_l31 = w2c_j0;
-    w2c_L365: 
+    w2c_L370: 
       w2c_j0 = w2c_l34;
       w2c_j1 = w2c_l24;
       w2c_j2 = 40ull;
@@ -13489,11 +13473,11 @@ static void w2c_f9(Z_dine_ffi_instance_t* instance, u64 w2c_p0, u64 w2c_p1, u64 
       w2c_j1 += w2c_j2;
       w2c_i1 = (u32)(w2c_j1);
       w2c_i1 = i32_load8_u(&instance->w2c_memory, (u64)(w2c_i1));
-      i32_store8(&instance->w2c_memory, (u64)(w2c_i0) + 1153, w2c_i1);
+      i32_store8(&instance->w2c_memory, (u64)(w2c_i0) + 1089, w2c_i1);
       w2c_j0 = w2c_l3;
       w2c_i0 = (u32)(w2c_j0);
       w2c_i1 = w2c_l41;
-      i32_store8(&instance->w2c_memory, (u64)(w2c_i0) + 1152, w2c_i1);
+      i32_store8(&instance->w2c_memory, (u64)(w2c_i0) + 1088, w2c_i1);
       w2c_j0 = w2c_l27;
       w2c_i0 = (u32)(w2c_j0);
       w2c_j1 = w2c_l4;
@@ -13529,22 +13513,22 @@ static void w2c_f9(Z_dine_ffi_instance_t* instance, u64 w2c_p0, u64 w2c_p1, u64 
       w2c_j0 = 0ull;
       w2c_l9 = w2c_j0;
       w2c_j0 = w2c_l3;
-      w2c_j1 = 1384ull;
+      w2c_j1 = 1320ull;
       w2c_j0 += w2c_j1;
       w2c_l6 = w2c_j0;
       w2c_i0 = w2c_l41;
       w2c_i1 = 6u;
       w2c_i0 = w2c_i0 != w2c_i1;
-      if (w2c_i0) {goto w2c_B366;}
+      if (w2c_i0) {goto w2c_B371;}
       w2c_j0 = w2c_l3;
       w2c_i0 = (u32)(w2c_j0);
-      w2c_i0 = i32_load8_u(&instance->w2c_memory, (u64)(w2c_i0) + 1160u);
+      w2c_i0 = i32_load8_u(&instance->w2c_memory, (u64)(w2c_i0) + 1096u);
       w2c_i1 = 1u;
       w2c_i0 = w2c_i0 != w2c_i1;
-      if (w2c_i0) {goto w2c_B366;}
+      if (w2c_i0) {goto w2c_B371;}
       w2c_j0 = w2c_l33;
       w2c_p1 = w2c_j0;
-      w2c_L367: 
+      w2c_L372: 
         w2c_j0 = 0ull;
         w2c_l4 = w2c_j0;
         w2c_j0 = w2c_p1;
@@ -13567,7 +13551,7 @@ static void w2c_f9(Z_dine_ffi_instance_t* instance, u64 w2c_p0, u64 w2c_p1, u64 
           w2c_l5 = w2c_j0;
           w2c_j0 = 0ull;
           w2c_p1 = w2c_j0;
-          w2c_L371: 
+          w2c_L376: 
             w2c_j0 = w2c_l4;
             w2c_j1 = 8ull;
             w2c_j0 -= w2c_j1;
@@ -13581,11 +13565,11 @@ static void w2c_f9(Z_dine_ffi_instance_t* instance, u64 w2c_p0, u64 w2c_p1, u64 
             w2c_j0 = w2c_l3;
             w2c_i0 = (u32)(w2c_j0);
             w2c_j1 = 4ull;
-            i64_store(&instance->w2c_memory, (u64)(w2c_i0) + 960, w2c_j1);
+            i64_store(&instance->w2c_memory, (u64)(w2c_i0) + 896, w2c_j1);
             w2c_j0 = w2c_l3;
             w2c_i0 = (u32)(w2c_j0);
             w2c_j1 = 1059805ull;
-            i64_store(&instance->w2c_memory, (u64)(w2c_i0) + 952, w2c_j1);
+            i64_store(&instance->w2c_memory, (u64)(w2c_i0) + 888, w2c_j1);
             w2c_j0 = w2c_l3;
             w2c_i0 = (u32)(w2c_j0);
             w2c_j1 = w2c_l8;
@@ -13595,7 +13579,7 @@ static void w2c_f9(Z_dine_ffi_instance_t* instance, u64 w2c_p0, u64 w2c_p1, u64 
             w2c_j1 = w2c_l7;
             i64_store(&instance->w2c_memory, (u64)(w2c_i0) + 584, w2c_j1);
             w2c_j0 = w2c_l3;
-            w2c_j1 = 952ull;
+            w2c_j1 = 888ull;
             w2c_j0 += w2c_j1;
             w2c_j1 = w2c_l3;
             w2c_j2 = 584ull;
@@ -13610,8 +13594,8 @@ static void w2c_f9(Z_dine_ffi_instance_t* instance, u64 w2c_p0, u64 w2c_p1, u64 
               w2c_i0 = w2c_l41;
               w2c_i1 = 1u;
               w2c_i0 -= w2c_i1;
-              if (w2c_i0) {goto w2c_B370;}
-              goto w2c_B368;
+              if (w2c_i0) {goto w2c_B375;}
+              goto w2c_B373;
             }
             w2c_j0 = w2c_l4;
             w2c_j1 = 24ull;
@@ -13627,10 +13611,10 @@ static void w2c_f9(Z_dine_ffi_instance_t* instance, u64 w2c_p0, u64 w2c_p1, u64 
             w2c_j1 += w2c_j2;
             w2c_p1 = w2c_j1;
             w2c_i0 = w2c_j0 != w2c_j1;
-            if (w2c_i0) {goto w2c_L371;}
+            if (w2c_i0) {goto w2c_L376;}
           w2c_j0 = w2c_p2;
           w2c_p1 = w2c_j0;
-          w2c_B370:;
+          w2c_B375:;
           w2c_j0 = w2c_p1;
           w2c_j1 = 3ull;
           w2c_j0 <<= (w2c_j1 & 63);
@@ -13642,15 +13626,15 @@ static void w2c_f9(Z_dine_ffi_instance_t* instance, u64 w2c_p0, u64 w2c_p1, u64 
         w2c_i0 = (u32)(w2c_j0);
         w2c_i0 = i32_load16_u(&instance->w2c_memory, (u64)(w2c_i0));
         w2c_i0 = !(w2c_i0);
-        if (w2c_i0) {goto w2c_B366;}
+        if (w2c_i0) {goto w2c_B371;}
         w2c_j0 = w2c_l4;
         w2c_j1 = w2c_l11;
         w2c_j0 += w2c_j1;
         w2c_j1 = 968ull;
         w2c_j0 += w2c_j1;
         w2c_p1 = w2c_j0;
-        goto w2c_L367;
-        w2c_B368:;
+        goto w2c_L372;
+        w2c_B373:;
       w2c_j0 = w2c_l5;
       w2c_j1 = 16ull;
       w2c_j0 -= w2c_j1;
@@ -13658,7 +13642,7 @@ static void w2c_f9(Z_dine_ffi_instance_t* instance, u64 w2c_p0, u64 w2c_p1, u64 
       w2c_i0 = i32_load8_u(&instance->w2c_memory, (u64)(w2c_i0));
       w2c_i1 = 5u;
       w2c_i0 = w2c_i0 != w2c_i1;
-      if (w2c_i0) {goto w2c_B366;}
+      if (w2c_i0) {goto w2c_B371;}
       w2c_j0 = w2c_l5;
       w2c_j1 = 8ull;
       w2c_j0 -= w2c_j1;
@@ -13669,39 +13653,39 @@ static void w2c_f9(Z_dine_ffi_instance_t* instance, u64 w2c_p0, u64 w2c_p1, u64 
       w2c_i0 = (u32)(w2c_j0);
       w2c_j0 = i64_load(&instance->w2c_memory, (u64)(w2c_i0));
       w2c_l9 = w2c_j0;
-      w2c_B366:;
+      w2c_B371:;
       w2c_i0 = w2c_l61;
       if (w2c_i0) {
         w2c_j0 = w2c_l3;
-        w2c_j1 = 1152ull;
+        w2c_j1 = 1088ull;
         w2c_j0 += w2c_j1;
         w2c_j1 = 1059816ull;
         w2c_j2 = 3ull;
         w2c_i0 = w2c_f23(instance, w2c_j0, w2c_j1, w2c_j2);
         w2c_i0 = !(w2c_i0);
-        if (w2c_i0) {goto w2c_B374;}
+        if (w2c_i0) {goto w2c_B379;}
         w2c_i0 = 1u;
         w2c_l51 = w2c_i0;
-        goto w2c_B373;
+        goto w2c_B378;
       }
       w2c_j0 = w2c_l3;
-      w2c_j1 = 1152ull;
+      w2c_j1 = 1088ull;
       w2c_j0 += w2c_j1;
       w2c_j1 = 1059880ull;
       w2c_j2 = 2ull;
       w2c_i0 = w2c_f23(instance, w2c_j0, w2c_j1, w2c_j2);
       w2c_i0 = !(w2c_i0);
-      if (w2c_i0) {goto w2c_B374;}
+      if (w2c_i0) {goto w2c_B379;}
       w2c_i0 = 1u;
       w2c_l51 = w2c_i0;
-      goto w2c_B373;
-      w2c_B374:;
+      goto w2c_B378;
+      w2c_B379:;
       w2c_i0 = 0u;
       w2c_l51 = w2c_i0;
       w2c_j0 = w2c_l9;
       w2c_i0 = !(w2c_j0);
-      if (w2c_i0) {goto w2c_B373;}
-      w2c_L376: 
+      if (w2c_i0) {goto w2c_B378;}
+      w2c_L381: 
         w2c_i0 = w2c_l61;
         if (w2c_i0) {
           w2c_j0 = w2c_l6;
@@ -13709,21 +13693,21 @@ static void w2c_f9(Z_dine_ffi_instance_t* instance, u64 w2c_p0, u64 w2c_p1, u64 
           w2c_j2 = 5ull;
           w2c_i0 = w2c_f23(instance, w2c_j0, w2c_j1, w2c_j2);
           w2c_i0 = !(w2c_i0);
-          if (w2c_i0) {goto w2c_B377;}
+          if (w2c_i0) {goto w2c_B382;}
           w2c_i0 = 1u;
           w2c_l51 = w2c_i0;
-          goto w2c_B373;
+          goto w2c_B378;
         }
         w2c_j0 = w2c_l6;
         w2c_j1 = 1060024ull;
         w2c_j2 = 3ull;
         w2c_i0 = w2c_f23(instance, w2c_j0, w2c_j1, w2c_j2);
         w2c_i0 = !(w2c_i0);
-        if (w2c_i0) {goto w2c_B377;}
+        if (w2c_i0) {goto w2c_B382;}
         w2c_i0 = 1u;
         w2c_l51 = w2c_i0;
-        goto w2c_B373;
-        w2c_B377:;
+        goto w2c_B378;
+        w2c_B382:;
         w2c_j0 = w2c_l6;
         w2c_j1 = 40ull;
         w2c_j0 += w2c_j1;
@@ -13734,8 +13718,8 @@ static void w2c_f9(Z_dine_ffi_instance_t* instance, u64 w2c_p0, u64 w2c_p1, u64 
         w2c_l9 = w2c_j0;
         w2c_j1 = 0ull;
         w2c_i0 = w2c_j0 != w2c_j1;
-        if (w2c_i0) {goto w2c_L376;}
-      w2c_B373:;
+        if (w2c_i0) {goto w2c_L381;}
+      w2c_B378:;
       w2c_j0 = 0ull;
       w2c_l15 = w2c_j0;
       w2c_i0 = 0u;
@@ -13745,23 +13729,23 @@ static void w2c_f9(Z_dine_ffi_instance_t* instance, u64 w2c_p0, u64 w2c_p1, u64 
       w2c_i0 = w2c_l48;
       w2c_j1 = w2c_l3;
       w2c_i1 = (u32)(w2c_j1);
-      w2c_i1 = i32_load8_u(&instance->w2c_memory, (u64)(w2c_i1) + 1152u);
+      w2c_i1 = i32_load8_u(&instance->w2c_memory, (u64)(w2c_i1) + 1088u);
       w2c_l43 = w2c_i1;
       w2c_i2 = 6u;
       w2c_i1 = w2c_i1 != w2c_i2;
-      if (w2c_i1) {goto w2c_B379;}
+      if (w2c_i1) {goto w2c_B384;}
       w2c_i0 = 1u;
       w2c_l52 = w2c_i0;
       w2c_i0 = w2c_l48;
       w2c_j1 = w2c_l3;
       w2c_i1 = (u32)(w2c_j1);
-      w2c_i1 = i32_load8_u(&instance->w2c_memory, (u64)(w2c_i1) + 1160u);
+      w2c_i1 = i32_load8_u(&instance->w2c_memory, (u64)(w2c_i1) + 1096u);
       w2c_i2 = 1u;
       w2c_i1 = w2c_i1 != w2c_i2;
-      if (w2c_i1) {goto w2c_B379;}
+      if (w2c_i1) {goto w2c_B384;}
       w2c_j0 = w2c_l33;
       w2c_p1 = w2c_j0;
-      w2c_L381: 
+      w2c_L386: 
         w2c_j0 = 0ull;
         w2c_l9 = w2c_j0;
         w2c_j0 = 0ull;
@@ -13786,7 +13770,7 @@ static void w2c_f9(Z_dine_ffi_instance_t* instance, u64 w2c_p0, u64 w2c_p1, u64 
           w2c_l5 = w2c_j0;
           w2c_j0 = 0ull;
           w2c_p1 = w2c_j0;
-          w2c_L385: 
+          w2c_L390: 
             w2c_j0 = w2c_l4;
             w2c_j1 = 8ull;
             w2c_j0 -= w2c_j1;
@@ -13800,11 +13784,11 @@ static void w2c_f9(Z_dine_ffi_instance_t* instance, u64 w2c_p0, u64 w2c_p1, u64 
             w2c_j0 = w2c_l3;
             w2c_i0 = (u32)(w2c_j0);
             w2c_j1 = 4ull;
-            i64_store(&instance->w2c_memory, (u64)(w2c_i0) + 960, w2c_j1);
+            i64_store(&instance->w2c_memory, (u64)(w2c_i0) + 896, w2c_j1);
             w2c_j0 = w2c_l3;
             w2c_i0 = (u32)(w2c_j0);
             w2c_j1 = 1059805ull;
-            i64_store(&instance->w2c_memory, (u64)(w2c_i0) + 952, w2c_j1);
+            i64_store(&instance->w2c_memory, (u64)(w2c_i0) + 888, w2c_j1);
             w2c_j0 = w2c_l3;
             w2c_i0 = (u32)(w2c_j0);
             w2c_j1 = w2c_l8;
@@ -13814,7 +13798,7 @@ static void w2c_f9(Z_dine_ffi_instance_t* instance, u64 w2c_p0, u64 w2c_p1, u64 
             w2c_j1 = w2c_l7;
             i64_store(&instance->w2c_memory, (u64)(w2c_i0) + 584, w2c_j1);
             w2c_j0 = w2c_l3;
-            w2c_j1 = 952ull;
+            w2c_j1 = 888ull;
             w2c_j0 += w2c_j1;
             w2c_j1 = w2c_l3;
             w2c_j2 = 584ull;
@@ -13829,8 +13813,8 @@ static void w2c_f9(Z_dine_ffi_instance_t* instance, u64 w2c_p0, u64 w2c_p1, u64 
               w2c_i0 = w2c_l41;
               w2c_i1 = 1u;
               w2c_i0 -= w2c_i1;
-              if (w2c_i0) {goto w2c_B384;}
-              goto w2c_B382;
+              if (w2c_i0) {goto w2c_B389;}
+              goto w2c_B387;
             }
             w2c_j0 = w2c_l4;
             w2c_j1 = 24ull;
@@ -13846,17 +13830,17 @@ static void w2c_f9(Z_dine_ffi_instance_t* instance, u64 w2c_p0, u64 w2c_p1, u64 
             w2c_j1 += w2c_j2;
             w2c_p1 = w2c_j1;
             w2c_i0 = w2c_j0 != w2c_j1;
-            if (w2c_i0) {goto w2c_L385;}
+            if (w2c_i0) {goto w2c_L390;}
           w2c_j0 = w2c_p2;
           w2c_p1 = w2c_j0;
-          w2c_B384:;
+          w2c_B389:;
           w2c_j0 = w2c_p1;
           w2c_j1 = 3ull;
           w2c_j0 <<= (w2c_j1 & 63);
           w2c_l4 = w2c_j0;
         }
         w2c_j0 = w2c_l3;
-        w2c_j1 = 1384ull;
+        w2c_j1 = 1320ull;
         w2c_j0 += w2c_j1;
         w2c_j1 = w2c_l6;
         w2c_j2 = 2ull;
@@ -13864,17 +13848,17 @@ static void w2c_f9(Z_dine_ffi_instance_t* instance, u64 w2c_p0, u64 w2c_p1, u64 
         w2c_i1 = (u32)(w2c_j1);
         w2c_i1 = i32_load16_u(&instance->w2c_memory, (u64)(w2c_i1));
         w2c_i1 = !(w2c_i1);
-        if (w2c_i1) {goto w2c_B380;}
+        if (w2c_i1) {goto w2c_B385;}
         w2c_j0 = w2c_l4;
         w2c_j1 = w2c_l6;
         w2c_j0 += w2c_j1;
         w2c_j1 = 968ull;
         w2c_j0 += w2c_j1;
         w2c_p1 = w2c_j0;
-        goto w2c_L381;
-        w2c_B382:;
+        goto w2c_L386;
+        w2c_B387:;
       w2c_j0 = w2c_l3;
-      w2c_j1 = 1384ull;
+      w2c_j1 = 1320ull;
       w2c_j0 += w2c_j1;
       w2c_j1 = w2c_l5;
       w2c_j2 = 16ull;
@@ -13883,7 +13867,7 @@ static void w2c_f9(Z_dine_ffi_instance_t* instance, u64 w2c_p0, u64 w2c_p1, u64 
       w2c_i1 = i32_load8_u(&instance->w2c_memory, (u64)(w2c_i1));
       w2c_i2 = 5u;
       w2c_i1 = w2c_i1 != w2c_i2;
-      if (w2c_i1) {goto w2c_B380;}
+      if (w2c_i1) {goto w2c_B385;}
       w2c_j0 = w2c_l5;
       w2c_i0 = (u32)(w2c_j0);
       w2c_j0 = i64_load(&instance->w2c_memory, (u64)(w2c_i0));
@@ -13893,11 +13877,11 @@ static void w2c_f9(Z_dine_ffi_instance_t* instance, u64 w2c_p0, u64 w2c_p1, u64 
       w2c_j0 -= w2c_j1;
       w2c_i0 = (u32)(w2c_j0);
       w2c_j0 = i64_load(&instance->w2c_memory, (u64)(w2c_i0));
-      w2c_B380:;
+      w2c_B385:;
       w2c_l6 = w2c_j0;
       w2c_j0 = w2c_l33;
       w2c_l4 = w2c_j0;
-      w2c_L388: 
+      w2c_L393: 
         w2c_j0 = w2c_l4;
         w2c_i0 = (u32)(w2c_j0);
         w2c_j0 = i64_load(&instance->w2c_memory, (u64)(w2c_i0));
@@ -13915,7 +13899,7 @@ static void w2c_f9(Z_dine_ffi_instance_t* instance, u64 w2c_p0, u64 w2c_p1, u64 
           w2c_l4 = w2c_j0;
           w2c_j0 = 0ull;
           w2c_p1 = w2c_j0;
-          w2c_L392: 
+          w2c_L397: 
             w2c_j0 = w2c_l4;
             w2c_j1 = 8ull;
             w2c_j0 -= w2c_j1;
@@ -13929,11 +13913,11 @@ static void w2c_f9(Z_dine_ffi_instance_t* instance, u64 w2c_p0, u64 w2c_p1, u64 
             w2c_j0 = w2c_l3;
             w2c_i0 = (u32)(w2c_j0);
             w2c_j1 = 4ull;
-            i64_store(&instance->w2c_memory, (u64)(w2c_i0) + 960, w2c_j1);
+            i64_store(&instance->w2c_memory, (u64)(w2c_i0) + 896, w2c_j1);
             w2c_j0 = w2c_l3;
             w2c_i0 = (u32)(w2c_j0);
             w2c_j1 = 1059801ull;
-            i64_store(&instance->w2c_memory, (u64)(w2c_i0) + 952, w2c_j1);
+            i64_store(&instance->w2c_memory, (u64)(w2c_i0) + 888, w2c_j1);
             w2c_j0 = w2c_l3;
             w2c_i0 = (u32)(w2c_j0);
             w2c_j1 = w2c_l7;
@@ -13943,7 +13927,7 @@ static void w2c_f9(Z_dine_ffi_instance_t* instance, u64 w2c_p0, u64 w2c_p1, u64 
             w2c_j1 = w2c_l5;
             i64_store(&instance->w2c_memory, (u64)(w2c_i0) + 584, w2c_j1);
             w2c_j0 = w2c_l3;
-            w2c_j1 = 952ull;
+            w2c_j1 = 888ull;
             w2c_j0 += w2c_j1;
             w2c_j1 = w2c_l3;
             w2c_j2 = 584ull;
@@ -13958,8 +13942,8 @@ static void w2c_f9(Z_dine_ffi_instance_t* instance, u64 w2c_p0, u64 w2c_p1, u64 
               w2c_i0 = w2c_l41;
               w2c_i1 = 1u;
               w2c_i0 -= w2c_i1;
-              if (w2c_i0) {goto w2c_B391;}
-              goto w2c_B389;
+              if (w2c_i0) {goto w2c_B396;}
+              goto w2c_B394;
             }
             w2c_j0 = w2c_l4;
             w2c_j1 = 24ull;
@@ -13971,10 +13955,10 @@ static void w2c_f9(Z_dine_ffi_instance_t* instance, u64 w2c_p0, u64 w2c_p1, u64 
             w2c_j1 += w2c_j2;
             w2c_p1 = w2c_j1;
             w2c_i0 = w2c_j0 != w2c_j1;
-            if (w2c_i0) {goto w2c_L392;}
+            if (w2c_i0) {goto w2c_L397;}
           w2c_j0 = w2c_l8;
           w2c_p1 = w2c_j0;
-          w2c_B391:;
+          w2c_B396:;
           w2c_j0 = w2c_p1;
           w2c_j1 = 3ull;
           w2c_j0 <<= (w2c_j1 & 63);
@@ -13986,27 +13970,27 @@ static void w2c_f9(Z_dine_ffi_instance_t* instance, u64 w2c_p0, u64 w2c_p1, u64 
         w2c_i0 = (u32)(w2c_j0);
         w2c_i0 = i32_load16_u(&instance->w2c_memory, (u64)(w2c_i0));
         w2c_i0 = !(w2c_i0);
-        if (w2c_i0) {goto w2c_B387;}
+        if (w2c_i0) {goto w2c_B392;}
         w2c_j0 = w2c_p2;
         w2c_j1 = w2c_l4;
         w2c_j0 += w2c_j1;
         w2c_j1 = 968ull;
         w2c_j0 += w2c_j1;
         w2c_l4 = w2c_j0;
-        goto w2c_L388;
-        w2c_B389:;
+        goto w2c_L393;
+        w2c_B394:;
       w2c_i0 = 0u;
       w2c_l52 = w2c_i0;
       w2c_j0 = w2c_l9;
       w2c_i0 = !(w2c_j0);
-      if (w2c_i0) {goto w2c_B387;}
-      w2c_L394: 
+      if (w2c_i0) {goto w2c_B392;}
+      w2c_L399: 
         w2c_j0 = w2c_l6;
         w2c_i0 = (u32)(w2c_j0);
         w2c_i0 = i32_load8_u(&instance->w2c_memory, (u64)(w2c_i0));
         w2c_i1 = 6u;
         w2c_i0 = w2c_i0 != w2c_i1;
-        if (w2c_i0) {goto w2c_B395;}
+        if (w2c_i0) {goto w2c_B400;}
         w2c_j0 = w2c_l6;
         w2c_j1 = 8ull;
         w2c_j0 += w2c_j1;
@@ -14017,13 +14001,13 @@ static void w2c_f9(Z_dine_ffi_instance_t* instance, u64 w2c_p0, u64 w2c_p1, u64 
         if (w2c_i0) {
           w2c_i0 = 1u;
           w2c_l52 = w2c_i0;
-          goto w2c_B387;
+          goto w2c_B392;
         }
         w2c_j0 = w2c_l6;
         w2c_j1 = 16ull;
         w2c_j0 += w2c_j1;
         w2c_l4 = w2c_j0;
-        w2c_L397: 
+        w2c_L402: 
           w2c_j0 = w2c_l4;
           w2c_i0 = (u32)(w2c_j0);
           w2c_j0 = i64_load(&instance->w2c_memory, (u64)(w2c_i0));
@@ -14041,7 +14025,7 @@ static void w2c_f9(Z_dine_ffi_instance_t* instance, u64 w2c_p0, u64 w2c_p1, u64 
             w2c_l4 = w2c_j0;
             w2c_j0 = 0ull;
             w2c_p1 = w2c_j0;
-            w2c_L400: 
+            w2c_L405: 
               w2c_j0 = w2c_l4;
               w2c_j1 = 8ull;
               w2c_j0 -= w2c_j1;
@@ -14055,11 +14039,11 @@ static void w2c_f9(Z_dine_ffi_instance_t* instance, u64 w2c_p0, u64 w2c_p1, u64 
               w2c_j0 = w2c_l3;
               w2c_i0 = (u32)(w2c_j0);
               w2c_j1 = 4ull;
-              i64_store(&instance->w2c_memory, (u64)(w2c_i0) + 960, w2c_j1);
+              i64_store(&instance->w2c_memory, (u64)(w2c_i0) + 896, w2c_j1);
               w2c_j0 = w2c_l3;
               w2c_i0 = (u32)(w2c_j0);
               w2c_j1 = 1059801ull;
-              i64_store(&instance->w2c_memory, (u64)(w2c_i0) + 952, w2c_j1);
+              i64_store(&instance->w2c_memory, (u64)(w2c_i0) + 888, w2c_j1);
               w2c_j0 = w2c_l3;
               w2c_i0 = (u32)(w2c_j0);
               w2c_j1 = w2c_l7;
@@ -14069,7 +14053,7 @@ static void w2c_f9(Z_dine_ffi_instance_t* instance, u64 w2c_p0, u64 w2c_p1, u64 
               w2c_j1 = w2c_l5;
               i64_store(&instance->w2c_memory, (u64)(w2c_i0) + 584, w2c_j1);
               w2c_j0 = w2c_l3;
-              w2c_j1 = 952ull;
+              w2c_j1 = 888ull;
               w2c_j0 += w2c_j1;
               w2c_j1 = w2c_l3;
               w2c_j2 = 584ull;
@@ -14084,8 +14068,8 @@ static void w2c_f9(Z_dine_ffi_instance_t* instance, u64 w2c_p0, u64 w2c_p1, u64 
                 w2c_i0 = w2c_l41;
                 w2c_i1 = 1u;
                 w2c_i0 -= w2c_i1;
-                if (w2c_i0) {goto w2c_B399;}
-                goto w2c_B395;
+                if (w2c_i0) {goto w2c_B404;}
+                goto w2c_B400;
               }
               w2c_j0 = w2c_l4;
               w2c_j1 = 24ull;
@@ -14097,10 +14081,10 @@ static void w2c_f9(Z_dine_ffi_instance_t* instance, u64 w2c_p0, u64 w2c_p1, u64 
               w2c_j1 += w2c_j2;
               w2c_p1 = w2c_j1;
               w2c_i0 = w2c_j0 != w2c_j1;
-              if (w2c_i0) {goto w2c_L400;}
+              if (w2c_i0) {goto w2c_L405;}
             w2c_j0 = w2c_l8;
             w2c_p1 = w2c_j0;
-            w2c_B399:;
+            w2c_B404:;
             w2c_j0 = w2c_p1;
             w2c_j1 = 3ull;
             w2c_j0 <<= (w2c_j1 & 63);
@@ -14118,15 +14102,15 @@ static void w2c_f9(Z_dine_ffi_instance_t* instance, u64 w2c_p0, u64 w2c_p1, u64 
             w2c_j1 = 968ull;
             w2c_j0 += w2c_j1;
             w2c_l4 = w2c_j0;
-            goto w2c_L397;
+            goto w2c_L402;
           } else {
             w2c_i0 = 1u;
             w2c_l52 = w2c_i0;
-            goto w2c_B387;
+            goto w2c_B392;
           }
           UNREACHABLE;
         UNREACHABLE;
-        w2c_B395:;
+        w2c_B400:;
         w2c_j0 = w2c_l6;
         w2c_j1 = 40ull;
         w2c_j0 += w2c_j1;
@@ -14137,11 +14121,11 @@ static void w2c_f9(Z_dine_ffi_instance_t* instance, u64 w2c_p0, u64 w2c_p1, u64 
         w2c_l9 = w2c_j0;
         w2c_j1 = 0ull;
         w2c_i0 = w2c_j0 != w2c_j1;
-        if (w2c_i0) {goto w2c_L394;}
-      w2c_B387:;
+        if (w2c_i0) {goto w2c_L399;}
+      w2c_B392:;
       w2c_j0 = w2c_l33;
       w2c_p1 = w2c_j0;
-      w2c_L403: 
+      w2c_L408: 
         w2c_j0 = 0ull;
         w2c_l4 = w2c_j0;
         w2c_j0 = w2c_p1;
@@ -14164,7 +14148,7 @@ static void w2c_f9(Z_dine_ffi_instance_t* instance, u64 w2c_p0, u64 w2c_p1, u64 
           w2c_l5 = w2c_j0;
           w2c_j0 = 0ull;
           w2c_p1 = w2c_j0;
-          w2c_L407: 
+          w2c_L412: 
             w2c_j0 = w2c_l4;
             w2c_j1 = 8ull;
             w2c_j0 -= w2c_j1;
@@ -14178,11 +14162,11 @@ static void w2c_f9(Z_dine_ffi_instance_t* instance, u64 w2c_p0, u64 w2c_p1, u64 
             w2c_j0 = w2c_l3;
             w2c_i0 = (u32)(w2c_j0);
             w2c_j1 = 4ull;
-            i64_store(&instance->w2c_memory, (u64)(w2c_i0) + 960, w2c_j1);
+            i64_store(&instance->w2c_memory, (u64)(w2c_i0) + 896, w2c_j1);
             w2c_j0 = w2c_l3;
             w2c_i0 = (u32)(w2c_j0);
             w2c_j1 = 1059805ull;
-            i64_store(&instance->w2c_memory, (u64)(w2c_i0) + 952, w2c_j1);
+            i64_store(&instance->w2c_memory, (u64)(w2c_i0) + 888, w2c_j1);
             w2c_j0 = w2c_l3;
             w2c_i0 = (u32)(w2c_j0);
             w2c_j1 = w2c_l8;
@@ -14192,7 +14176,7 @@ static void w2c_f9(Z_dine_ffi_instance_t* instance, u64 w2c_p0, u64 w2c_p1, u64 
             w2c_j1 = w2c_l7;
             i64_store(&instance->w2c_memory, (u64)(w2c_i0) + 584, w2c_j1);
             w2c_j0 = w2c_l3;
-            w2c_j1 = 952ull;
+            w2c_j1 = 888ull;
             w2c_j0 += w2c_j1;
             w2c_j1 = w2c_l3;
             w2c_j2 = 584ull;
@@ -14207,8 +14191,8 @@ static void w2c_f9(Z_dine_ffi_instance_t* instance, u64 w2c_p0, u64 w2c_p1, u64 
               w2c_i0 = w2c_l41;
               w2c_i1 = 1u;
               w2c_i0 -= w2c_i1;
-              if (w2c_i0) {goto w2c_B406;}
-              goto w2c_B404;
+              if (w2c_i0) {goto w2c_B411;}
+              goto w2c_B409;
             }
             w2c_j0 = w2c_l4;
             w2c_j1 = 24ull;
@@ -14224,10 +14208,10 @@ static void w2c_f9(Z_dine_ffi_instance_t* instance, u64 w2c_p0, u64 w2c_p1, u64 
             w2c_j1 += w2c_j2;
             w2c_p1 = w2c_j1;
             w2c_i0 = w2c_j0 != w2c_j1;
-            if (w2c_i0) {goto w2c_L407;}
+            if (w2c_i0) {goto w2c_L412;}
           w2c_j0 = w2c_p2;
           w2c_p1 = w2c_j0;
-          w2c_B406:;
+          w2c_B411:;
           w2c_j0 = w2c_p1;
           w2c_j1 = 3ull;
           w2c_j0 <<= (w2c_j1 & 63);
@@ -14240,22 +14224,22 @@ static void w2c_f9(Z_dine_ffi_instance_t* instance, u64 w2c_p0, u64 w2c_p1, u64 
         w2c_i1 = (u32)(w2c_j1);
         w2c_i1 = i32_load16_u(&instance->w2c_memory, (u64)(w2c_i1));
         w2c_i1 = !(w2c_i1);
-        if (w2c_i1) {goto w2c_B379;}
+        if (w2c_i1) {goto w2c_B384;}
         w2c_j0 = w2c_l4;
         w2c_j1 = w2c_l6;
         w2c_j0 += w2c_j1;
         w2c_j1 = 968ull;
         w2c_j0 += w2c_j1;
         w2c_p1 = w2c_j0;
-        goto w2c_L403;
-        w2c_B404:;
+        goto w2c_L408;
+        w2c_B409:;
       w2c_i0 = w2c_l48;
       w2c_j1 = w2c_l5;
       w2c_i1 = (u32)(w2c_j1);
       w2c_i1 = i32_load8_u(&instance->w2c_memory, (u64)(w2c_i1));
       w2c_i2 = 5u;
       w2c_i1 = w2c_i1 != w2c_i2;
-      if (w2c_i1) {goto w2c_B379;}
+      if (w2c_i1) {goto w2c_B384;}
       w2c_i0 = w2c_l48;
       w2c_j1 = w2c_l5;
       w2c_j2 = 16ull;
@@ -14264,20 +14248,20 @@ static void w2c_f9(Z_dine_ffi_instance_t* instance, u64 w2c_p0, u64 w2c_p1, u64 
       w2c_j1 = i64_load(&instance->w2c_memory, (u64)(w2c_i1));
       w2c_l9 = w2c_j1;
       w2c_i1 = !(w2c_j1);
-      if (w2c_i1) {goto w2c_B379;}
+      if (w2c_i1) {goto w2c_B384;}
       w2c_j0 = w2c_l5;
       w2c_j1 = 8ull;
       w2c_j0 += w2c_j1;
       w2c_i0 = (u32)(w2c_j0);
       w2c_j0 = i64_load(&instance->w2c_memory, (u64)(w2c_i0));
       w2c_p2 = w2c_j0;
-      w2c_L410: 
+      w2c_L415: 
         w2c_j0 = w2c_p2;
         w2c_i0 = (u32)(w2c_j0);
         w2c_i0 = i32_load8_u(&instance->w2c_memory, (u64)(w2c_i0));
         w2c_i1 = 6u;
         w2c_i0 = w2c_i0 != w2c_i1;
-        if (w2c_i0) {goto w2c_B411;}
+        if (w2c_i0) {goto w2c_B416;}
         w2c_j0 = w2c_p2;
         w2c_j1 = 8ull;
         w2c_j0 += w2c_j1;
@@ -14285,112 +14269,14 @@ static void w2c_f9(Z_dine_ffi_instance_t* instance, u64 w2c_p0, u64 w2c_p1, u64 
         w2c_i0 = i32_load8_u(&instance->w2c_memory, (u64)(w2c_i0));
         w2c_i1 = 1u;
         w2c_i0 = w2c_i0 != w2c_i1;
-        if (w2c_i0) {goto w2c_B411;}
+        if (w2c_i0) {goto w2c_B416;}
         w2c_j0 = w2c_p2;
         w2c_j1 = 16ull;
         w2c_j0 += w2c_j1;
         w2c_l11 = w2c_j0;
         w2c_l4 = w2c_j0;
-        w2c_L412: 
+        w2c_L417: 
           w2c_j0 = w2c_l4;
-          w2c_i0 = (u32)(w2c_j0);
-          w2c_j0 = i64_load(&instance->w2c_memory, (u64)(w2c_i0));
-          w2c_l6 = w2c_j0;
-          w2c_i0 = (u32)(w2c_j0);
-          w2c_j0 = i64_load16_u(&instance->w2c_memory, (u64)(w2c_i0));
-          w2c_l8 = w2c_j0;
-          w2c_i0 = !(w2c_j0);
-          if (w2c_i0) {
-            w2c_j0 = 0ull;
-          } else {
-            w2c_j0 = w2c_l6;
-            w2c_j1 = 16ull;
-            w2c_j0 += w2c_j1;
-            w2c_l4 = w2c_j0;
-            w2c_j0 = 0ull;
-            w2c_p1 = w2c_j0;
-            w2c_L416: 
-              w2c_j0 = w2c_l4;
-              w2c_j1 = 8ull;
-              w2c_j0 -= w2c_j1;
-              w2c_i0 = (u32)(w2c_j0);
-              w2c_j0 = i64_load(&instance->w2c_memory, (u64)(w2c_i0));
-              w2c_l5 = w2c_j0;
-              w2c_j0 = w2c_l4;
-              w2c_i0 = (u32)(w2c_j0);
-              w2c_j0 = i64_load(&instance->w2c_memory, (u64)(w2c_i0));
-              w2c_l7 = w2c_j0;
-              w2c_j0 = w2c_l3;
-              w2c_i0 = (u32)(w2c_j0);
-              w2c_j1 = 3ull;
-              i64_store(&instance->w2c_memory, (u64)(w2c_i0) + 960, w2c_j1);
-              w2c_j0 = w2c_l3;
-              w2c_i0 = (u32)(w2c_j0);
-              w2c_j1 = 1060088ull;
-              i64_store(&instance->w2c_memory, (u64)(w2c_i0) + 952, w2c_j1);
-              w2c_j0 = w2c_l3;
-              w2c_i0 = (u32)(w2c_j0);
-              w2c_j1 = w2c_l7;
-              i64_store(&instance->w2c_memory, (u64)(w2c_i0) + 592, w2c_j1);
-              w2c_j0 = w2c_l3;
-              w2c_i0 = (u32)(w2c_j0);
-              w2c_j1 = w2c_l5;
-              i64_store(&instance->w2c_memory, (u64)(w2c_i0) + 584, w2c_j1);
-              w2c_j0 = w2c_l3;
-              w2c_j1 = 952ull;
-              w2c_j0 += w2c_j1;
-              w2c_j1 = w2c_l3;
-              w2c_j2 = 584ull;
-              w2c_j1 += w2c_j2;
-              w2c_i0 = w2c_f21(instance, w2c_j0, w2c_j1);
-              w2c_i1 = 255u;
-              w2c_i0 &= w2c_i1;
-              w2c_l41 = w2c_i0;
-              w2c_i1 = 2u;
-              w2c_i0 = w2c_i0 != w2c_i1;
-              if (w2c_i0) {
-                w2c_i0 = w2c_l41;
-                w2c_i1 = 1u;
-                w2c_i0 -= w2c_i1;
-                if (w2c_i0) {goto w2c_B415;}
-                goto w2c_B413;
-              }
-              w2c_j0 = w2c_l4;
-              w2c_j1 = 24ull;
-              w2c_j0 += w2c_j1;
-              w2c_l4 = w2c_j0;
-              w2c_j0 = w2c_l8;
-              w2c_j1 = w2c_p1;
-              w2c_j2 = 1ull;
-              w2c_j1 += w2c_j2;
-              w2c_p1 = w2c_j1;
-              w2c_i0 = w2c_j0 != w2c_j1;
-              if (w2c_i0) {goto w2c_L416;}
-            w2c_j0 = w2c_l8;
-            w2c_p1 = w2c_j0;
-            w2c_B415:;
-            w2c_j0 = w2c_p1;
-            w2c_j1 = 3ull;
-            w2c_j0 <<= (w2c_j1 & 63);
-          }
-          w2c_l4 = w2c_j0;
-          w2c_j0 = w2c_l6;
-          w2c_j1 = 2ull;
-          w2c_j0 += w2c_j1;
-          w2c_i0 = (u32)(w2c_j0);
-          w2c_i0 = i32_load16_u(&instance->w2c_memory, (u64)(w2c_i0));
-          w2c_i0 = !(w2c_i0);
-          if (w2c_i0) {goto w2c_B411;}
-          w2c_j0 = w2c_l4;
-          w2c_j1 = w2c_l6;
-          w2c_j0 += w2c_j1;
-          w2c_j1 = 968ull;
-          w2c_j0 += w2c_j1;
-          w2c_l4 = w2c_j0;
-          goto w2c_L412;
-          w2c_B413:;
-        w2c_L418: 
-          w2c_j0 = w2c_l11;
           w2c_i0 = (u32)(w2c_j0);
           w2c_j0 = i64_load(&instance->w2c_memory, (u64)(w2c_i0));
           w2c_l6 = w2c_j0;
@@ -14421,11 +14307,11 @@ static void w2c_f9(Z_dine_ffi_instance_t* instance, u64 w2c_p0, u64 w2c_p1, u64 
               w2c_j0 = w2c_l3;
               w2c_i0 = (u32)(w2c_j0);
               w2c_j1 = 3ull;
-              i64_store(&instance->w2c_memory, (u64)(w2c_i0) + 960, w2c_j1);
+              i64_store(&instance->w2c_memory, (u64)(w2c_i0) + 896, w2c_j1);
               w2c_j0 = w2c_l3;
               w2c_i0 = (u32)(w2c_j0);
-              w2c_j1 = 1060091ull;
-              i64_store(&instance->w2c_memory, (u64)(w2c_i0) + 952, w2c_j1);
+              w2c_j1 = 1060088ull;
+              i64_store(&instance->w2c_memory, (u64)(w2c_i0) + 888, w2c_j1);
               w2c_j0 = w2c_l3;
               w2c_i0 = (u32)(w2c_j0);
               w2c_j1 = w2c_l7;
@@ -14435,7 +14321,7 @@ static void w2c_f9(Z_dine_ffi_instance_t* instance, u64 w2c_p0, u64 w2c_p1, u64 
               w2c_j1 = w2c_l5;
               i64_store(&instance->w2c_memory, (u64)(w2c_i0) + 584, w2c_j1);
               w2c_j0 = w2c_l3;
-              w2c_j1 = 952ull;
+              w2c_j1 = 888ull;
               w2c_j0 += w2c_j1;
               w2c_j1 = w2c_l3;
               w2c_j2 = 584ull;
@@ -14451,7 +14337,7 @@ static void w2c_f9(Z_dine_ffi_instance_t* instance, u64 w2c_p0, u64 w2c_p1, u64 
                 w2c_i1 = 1u;
                 w2c_i0 -= w2c_i1;
                 if (w2c_i0) {goto w2c_B420;}
-                goto w2c_B409;
+                goto w2c_B418;
               }
               w2c_j0 = w2c_l4;
               w2c_j1 = 24ull;
@@ -14478,16 +14364,114 @@ static void w2c_f9(Z_dine_ffi_instance_t* instance, u64 w2c_p0, u64 w2c_p1, u64 
           w2c_i0 = (u32)(w2c_j0);
           w2c_i0 = i32_load16_u(&instance->w2c_memory, (u64)(w2c_i0));
           w2c_i0 = !(w2c_i0);
-          if (w2c_i0) {goto w2c_B411;}
+          if (w2c_i0) {goto w2c_B416;}
+          w2c_j0 = w2c_l4;
+          w2c_j1 = w2c_l6;
+          w2c_j0 += w2c_j1;
+          w2c_j1 = 968ull;
+          w2c_j0 += w2c_j1;
+          w2c_l4 = w2c_j0;
+          goto w2c_L417;
+          w2c_B418:;
+        w2c_L423: 
+          w2c_j0 = w2c_l11;
+          w2c_i0 = (u32)(w2c_j0);
+          w2c_j0 = i64_load(&instance->w2c_memory, (u64)(w2c_i0));
+          w2c_l6 = w2c_j0;
+          w2c_i0 = (u32)(w2c_j0);
+          w2c_j0 = i64_load16_u(&instance->w2c_memory, (u64)(w2c_i0));
+          w2c_l8 = w2c_j0;
+          w2c_i0 = !(w2c_j0);
+          if (w2c_i0) {
+            w2c_j0 = 0ull;
+          } else {
+            w2c_j0 = w2c_l6;
+            w2c_j1 = 16ull;
+            w2c_j0 += w2c_j1;
+            w2c_l4 = w2c_j0;
+            w2c_j0 = 0ull;
+            w2c_p1 = w2c_j0;
+            w2c_L426: 
+              w2c_j0 = w2c_l4;
+              w2c_j1 = 8ull;
+              w2c_j0 -= w2c_j1;
+              w2c_i0 = (u32)(w2c_j0);
+              w2c_j0 = i64_load(&instance->w2c_memory, (u64)(w2c_i0));
+              w2c_l5 = w2c_j0;
+              w2c_j0 = w2c_l4;
+              w2c_i0 = (u32)(w2c_j0);
+              w2c_j0 = i64_load(&instance->w2c_memory, (u64)(w2c_i0));
+              w2c_l7 = w2c_j0;
+              w2c_j0 = w2c_l3;
+              w2c_i0 = (u32)(w2c_j0);
+              w2c_j1 = 3ull;
+              i64_store(&instance->w2c_memory, (u64)(w2c_i0) + 896, w2c_j1);
+              w2c_j0 = w2c_l3;
+              w2c_i0 = (u32)(w2c_j0);
+              w2c_j1 = 1060091ull;
+              i64_store(&instance->w2c_memory, (u64)(w2c_i0) + 888, w2c_j1);
+              w2c_j0 = w2c_l3;
+              w2c_i0 = (u32)(w2c_j0);
+              w2c_j1 = w2c_l7;
+              i64_store(&instance->w2c_memory, (u64)(w2c_i0) + 592, w2c_j1);
+              w2c_j0 = w2c_l3;
+              w2c_i0 = (u32)(w2c_j0);
+              w2c_j1 = w2c_l5;
+              i64_store(&instance->w2c_memory, (u64)(w2c_i0) + 584, w2c_j1);
+              w2c_j0 = w2c_l3;
+              w2c_j1 = 888ull;
+              w2c_j0 += w2c_j1;
+              w2c_j1 = w2c_l3;
+              w2c_j2 = 584ull;
+              w2c_j1 += w2c_j2;
+              w2c_i0 = w2c_f21(instance, w2c_j0, w2c_j1);
+              w2c_i1 = 255u;
+              w2c_i0 &= w2c_i1;
+              w2c_l41 = w2c_i0;
+              w2c_i1 = 2u;
+              w2c_i0 = w2c_i0 != w2c_i1;
+              if (w2c_i0) {
+                w2c_i0 = w2c_l41;
+                w2c_i1 = 1u;
+                w2c_i0 -= w2c_i1;
+                if (w2c_i0) {goto w2c_B425;}
+                goto w2c_B414;
+              }
+              w2c_j0 = w2c_l4;
+              w2c_j1 = 24ull;
+              w2c_j0 += w2c_j1;
+              w2c_l4 = w2c_j0;
+              w2c_j0 = w2c_l8;
+              w2c_j1 = w2c_p1;
+              w2c_j2 = 1ull;
+              w2c_j1 += w2c_j2;
+              w2c_p1 = w2c_j1;
+              w2c_i0 = w2c_j0 != w2c_j1;
+              if (w2c_i0) {goto w2c_L426;}
+            w2c_j0 = w2c_l8;
+            w2c_p1 = w2c_j0;
+            w2c_B425:;
+            w2c_j0 = w2c_p1;
+            w2c_j1 = 3ull;
+            w2c_j0 <<= (w2c_j1 & 63);
+          }
+          w2c_l4 = w2c_j0;
+          w2c_j0 = w2c_l6;
+          w2c_j1 = 2ull;
+          w2c_j0 += w2c_j1;
+          w2c_i0 = (u32)(w2c_j0);
+          w2c_i0 = i32_load16_u(&instance->w2c_memory, (u64)(w2c_i0));
+          w2c_i0 = !(w2c_i0);
+          if (w2c_i0) {goto w2c_B416;}
           w2c_j0 = w2c_l4;
           w2c_j1 = w2c_l6;
           w2c_j0 += w2c_j1;
           w2c_j1 = 968ull;
           w2c_j0 += w2c_j1;
           w2c_l11 = w2c_j0;
-          goto w2c_L418;
+          goto w2c_L423;
         UNREACHABLE;
-        w2c_B411:;
+        w2c_B416:;
         w2c_j0 = w2c_p2;
         w2c_j1 = 40ull;
         w2c_j0 += w2c_j1;
@@ -14498,14 +14482,14 @@ static void w2c_f9(Z_dine_ffi_instance_t* instance, u64 w2c_p0, u64 w2c_p1, u64 
         w2c_l9 = w2c_j0;
         w2c_i0 = !(w2c_j0);
         w2c_i0 = !(w2c_i0);
-        if (w2c_i0) {goto w2c_L410;}
+        if (w2c_i0) {goto w2c_L415;}
       w2c_i0 = w2c_l48;
-      goto w2c_B379;
-      w2c_B409:;
+      goto w2c_B384;
+      w2c_B414:;
       w2c_j0 = w2c_l12;
       w2c_l26 = w2c_j0;
       w2c_i0 = 1u;
-      w2c_B379:;
+      w2c_B384:;
       w2c_l62 = w2c_i0;
       w2c_j0 = w2c_l31;
       w2c_j1 = 1ull;
@@ -14517,64 +14501,64 @@ static void w2c_f9(Z_dine_ffi_instance_t* instance, u64 w2c_p0, u64 w2c_p1, u64 
       w2c_l24 = w2c_j0;
       w2c_j0 = w2c_l3;
       w2c_i0 = (u32)(w2c_j0);
-      w2c_i0 = i32_load(&instance->w2c_memory, (u64)(w2c_i0) + 1184u);
+      w2c_i0 = i32_load(&instance->w2c_memory, (u64)(w2c_i0) + 1120u);
       w2c_l44 = w2c_i0;
       w2c_j0 = w2c_l3;
       w2c_i0 = (u32)(w2c_j0);
-      w2c_j0 = i64_load(&instance->w2c_memory, (u64)(w2c_i0) + 1176u);
+      w2c_j0 = i64_load(&instance->w2c_memory, (u64)(w2c_i0) + 1112u);
       w2c_l13 = w2c_j0;
       w2c_j0 = w2c_l3;
       w2c_i0 = (u32)(w2c_j0);
-      w2c_j0 = i64_load(&instance->w2c_memory, (u64)(w2c_i0) + 1168u);
+      w2c_j0 = i64_load(&instance->w2c_memory, (u64)(w2c_i0) + 1104u);
       w2c_l9 = w2c_j0;
       w2c_j0 = w2c_l3;
       w2c_i0 = (u32)(w2c_j0);
-      w2c_i0 = i32_load(&instance->w2c_memory, (u64)(w2c_i0) + 1156u);
+      w2c_i0 = i32_load(&instance->w2c_memory, (u64)(w2c_i0) + 1092u);
       w2c_l45 = w2c_i0;
       w2c_j0 = w2c_l3;
       w2c_i0 = (u32)(w2c_j0);
-      w2c_i0 = i32_load8_u(&instance->w2c_memory, (u64)(w2c_i0) + 1153u);
+      w2c_i0 = i32_load8_u(&instance->w2c_memory, (u64)(w2c_i0) + 1089u);
       w2c_l47 = w2c_i0;
       w2c_j0 = w2c_l3;
       w2c_i0 = (u32)(w2c_j0);
-      w2c_j0 = i64_load(&instance->w2c_memory, (u64)(w2c_i0) + 1160u);
+      w2c_j0 = i64_load(&instance->w2c_memory, (u64)(w2c_i0) + 1096u);
       w2c_l14 = w2c_j0;
       w2c_j0 = w2c_l3;
       w2c_i0 = (u32)(w2c_j0);
       w2c_j1 = 0ull;
-      i64_store(&instance->w2c_memory, (u64)(w2c_i0) + 1256, w2c_j1);
+      i64_store(&instance->w2c_memory, (u64)(w2c_i0) + 1192, w2c_j1);
       w2c_j0 = w2c_l3;
       w2c_i0 = (u32)(w2c_j0);
       w2c_j1 = 0ull;
-      i64_store(&instance->w2c_memory, (u64)(w2c_i0) + 1264, w2c_j1);
+      i64_store(&instance->w2c_memory, (u64)(w2c_i0) + 1200, w2c_j1);
       w2c_j0 = w2c_l3;
       w2c_i0 = (u32)(w2c_j0);
       w2c_j1 = 0ull;
-      i64_store(&instance->w2c_memory, (u64)(w2c_i0) + 1272, w2c_j1);
+      i64_store(&instance->w2c_memory, (u64)(w2c_i0) + 1208, w2c_j1);
       w2c_j0 = w2c_l3;
       w2c_i0 = (u32)(w2c_j0);
       w2c_j1 = 0ull;
-      i64_store(&instance->w2c_memory, (u64)(w2c_i0) + 1216, w2c_j1);
+      i64_store(&instance->w2c_memory, (u64)(w2c_i0) + 1152, w2c_j1);
       w2c_j0 = w2c_l3;
       w2c_i0 = (u32)(w2c_j0);
       w2c_j1 = 0ull;
-      i64_store(&instance->w2c_memory, (u64)(w2c_i0) + 1224, w2c_j1);
+      i64_store(&instance->w2c_memory, (u64)(w2c_i0) + 1160, w2c_j1);
       w2c_j0 = w2c_l3;
       w2c_i0 = (u32)(w2c_j0);
       w2c_j1 = 0ull;
-      i64_store(&instance->w2c_memory, (u64)(w2c_i0) + 1232, w2c_j1);
+      i64_store(&instance->w2c_memory, (u64)(w2c_i0) + 1168, w2c_j1);
       w2c_j0 = w2c_l3;
       w2c_i0 = (u32)(w2c_j0);
       w2c_j1 = 0ull;
-      i64_store(&instance->w2c_memory, (u64)(w2c_i0) + 1240, w2c_j1);
+      i64_store(&instance->w2c_memory, (u64)(w2c_i0) + 1176, w2c_j1);
       w2c_j0 = w2c_l3;
       w2c_i0 = (u32)(w2c_j0);
       w2c_j1 = 0ull;
-      i64_store(&instance->w2c_memory, (u64)(w2c_i0) + 1248, w2c_j1);
+      i64_store(&instance->w2c_memory, (u64)(w2c_i0) + 1184, w2c_j1);
       w2c_j0 = 1048585ull;
       w2c_l11 = w2c_j0;
       w2c_j0 = w2c_l3;
-      w2c_j1 = 1384ull;
+      w2c_j1 = 1320ull;
       w2c_j0 += w2c_j1;
       w2c_l22 = w2c_j0;
       w2c_i0 = w2c_l43;
@@ -14588,10 +14572,10 @@ static void w2c_f9(Z_dine_ffi_instance_t* instance, u64 w2c_p0, u64 w2c_p1, u64 
       w2c_i0 &= w2c_i1;
       w2c_l42 = w2c_i0;
       w2c_i0 = !(w2c_i0);
-      if (w2c_i0) {goto w2c_B424;}
+      if (w2c_i0) {goto w2c_B429;}
       w2c_j0 = w2c_l9;
       w2c_l6 = w2c_j0;
-      w2c_L425: 
+      w2c_L430: 
         w2c_j0 = 0ull;
         w2c_l4 = w2c_j0;
         w2c_j0 = w2c_l6;
@@ -14611,7 +14595,7 @@ static void w2c_f9(Z_dine_ffi_instance_t* instance, u64 w2c_p0, u64 w2c_p1, u64 
           w2c_l5 = w2c_j0;
           w2c_j0 = 0ull;
           w2c_p1 = w2c_j0;
-          w2c_L429: 
+          w2c_L434: 
             w2c_j0 = w2c_l4;
             w2c_j1 = 8ull;
             w2c_j0 -= w2c_j1;
@@ -14625,11 +14609,11 @@ static void w2c_f9(Z_dine_ffi_instance_t* instance, u64 w2c_p0, u64 w2c_p1, u64 
             w2c_j0 = w2c_l3;
             w2c_i0 = (u32)(w2c_j0);
             w2c_j1 = 4ull;
-            i64_store(&instance->w2c_memory, (u64)(w2c_i0) + 960, w2c_j1);
+            i64_store(&instance->w2c_memory, (u64)(w2c_i0) + 896, w2c_j1);
             w2c_j0 = w2c_l3;
             w2c_i0 = (u32)(w2c_j0);
             w2c_j1 = 1059801ull;
-            i64_store(&instance->w2c_memory, (u64)(w2c_i0) + 952, w2c_j1);
+            i64_store(&instance->w2c_memory, (u64)(w2c_i0) + 888, w2c_j1);
             w2c_j0 = w2c_l3;
             w2c_i0 = (u32)(w2c_j0);
             w2c_j1 = w2c_l8;
@@ -14639,7 +14623,7 @@ static void w2c_f9(Z_dine_ffi_instance_t* instance, u64 w2c_p0, u64 w2c_p1, u64 
             w2c_j1 = w2c_l7;
             i64_store(&instance->w2c_memory, (u64)(w2c_i0) + 584, w2c_j1);
             w2c_j0 = w2c_l3;
-            w2c_j1 = 952ull;
+            w2c_j1 = 888ull;
             w2c_j0 += w2c_j1;
             w2c_j1 = w2c_l3;
             w2c_j2 = 584ull;
@@ -14654,8 +14638,8 @@ static void w2c_f9(Z_dine_ffi_instance_t* instance, u64 w2c_p0, u64 w2c_p1, u64 
               w2c_i0 = w2c_l41;
               w2c_i1 = 1u;
               w2c_i0 -= w2c_i1;
-              if (w2c_i0) {goto w2c_B428;}
-              goto w2c_B426;
+              if (w2c_i0) {goto w2c_B433;}
+              goto w2c_B431;
             }
             w2c_j0 = w2c_l4;
             w2c_j1 = 24ull;
@@ -14671,10 +14655,10 @@ static void w2c_f9(Z_dine_ffi_instance_t* instance, u64 w2c_p0, u64 w2c_p1, u64 
             w2c_j1 += w2c_j2;
             w2c_p1 = w2c_j1;
             w2c_i0 = w2c_j0 != w2c_j1;
-            if (w2c_i0) {goto w2c_L429;}
+            if (w2c_i0) {goto w2c_L434;}
           w2c_j0 = w2c_p2;
           w2c_p1 = w2c_j0;
-          w2c_B428:;
+          w2c_B433:;
           w2c_j0 = w2c_p1;
           w2c_j1 = 3ull;
           w2c_j0 <<= (w2c_j1 & 63);
@@ -14686,7 +14670,7 @@ static void w2c_f9(Z_dine_ffi_instance_t* instance, u64 w2c_p0, u64 w2c_p1, u64 
         w2c_i0 = (u32)(w2c_j0);
         w2c_i0 = i32_load16_u(&instance->w2c_memory, (u64)(w2c_i0));
         w2c_i0 = !(w2c_i0);
-        if (w2c_i0) {goto w2c_B424;}
+        if (w2c_i0) {goto w2c_B429;}
         w2c_j0 = w2c_l4;
         w2c_j1 = w2c_l6;
         w2c_j0 += w2c_j1;
@@ -14695,14 +14679,14 @@ static void w2c_f9(Z_dine_ffi_instance_t* instance, u64 w2c_p0, u64 w2c_p1, u64 
         w2c_i0 = (u32)(w2c_j0);
         w2c_j0 = i64_load(&instance->w2c_memory, (u64)(w2c_i0));
         w2c_l6 = w2c_j0;
-        goto w2c_L425;
-        w2c_B426:;
+        goto w2c_L430;
+        w2c_B431:;
       w2c_j0 = w2c_l5;
       w2c_j1 = 16ull;
       w2c_j0 -= w2c_j1;
       w2c_i0 = (u32)(w2c_j0);
       w2c_i0 = i32_load8_u(&instance->w2c_memory, (u64)(w2c_i0));
-      if (w2c_i0) {goto w2c_B431;}
+      if (w2c_i0) {goto w2c_B436;}
       w2c_j0 = w2c_l5;
       w2c_j1 = 8ull;
       w2c_j0 -= w2c_j1;
@@ -14714,16 +14698,16 @@ static void w2c_f9(Z_dine_ffi_instance_t* instance, u64 w2c_p0, u64 w2c_p1, u64 
       w2c_j0 = i64_load(&instance->w2c_memory, (u64)(w2c_i0));
       w2c_l15 = w2c_j0;
       w2c_i0 = !(w2c_j0);
-      if (w2c_i0) {goto w2c_B431;}
+      if (w2c_i0) {goto w2c_B436;}
       w2c_j0 = w2c_l15;
       w2c_j1 = 0ull;
       w2c_i0 = (u64)((s64)w2c_j0 < (s64)w2c_j1);
-      if (w2c_i0) {goto w2c_B432;}
+      if (w2c_i0) {goto w2c_B437;}
       w2c_j0 = w2c_l3;
       w2c_j1 = 24ull;
       w2c_j0 += w2c_j1;
       w2c_j1 = w2c_l15;
-      w2c_f136(instance, w2c_j0, w2c_j1);
+      w2c_f140(instance, w2c_j0, w2c_j1);
       w2c_j0 = w2c_l3;
       w2c_i0 = (u32)(w2c_j0);
       w2c_j0 = i64_load(&instance->w2c_memory, (u64)(w2c_i0) + 24u);
@@ -14731,7 +14715,7 @@ static void w2c_f9(Z_dine_ffi_instance_t* instance, u64 w2c_p0, u64 w2c_p1, u64 
       w2c_i1 = 1u;
       w2c_i0 &= w2c_i1;
       w2c_i0 = !(w2c_i0);
-      if (w2c_i0) {goto w2c_B432;}
+      if (w2c_i0) {goto w2c_B437;}
       w2c_j0 = w2c_l3;
       w2c_i0 = (u32)(w2c_j0);
       w2c_j0 = i64_load(&instance->w2c_memory, (u64)(w2c_i0) + 32u);
@@ -14740,7 +14724,7 @@ static void w2c_f9(Z_dine_ffi_instance_t* instance, u64 w2c_p0, u64 w2c_p1, u64 
       w2c_j0 -= w2c_j1;
       w2c_j1 = w2c_l15;
       w2c_i0 = w2c_j0 >= w2c_j1;
-      if (w2c_i0) {goto w2c_B424;}
+      if (w2c_i0) {goto w2c_B429;}
       w2c_j0 = w2c_l15;
       w2c_j1 = 3ull;
       w2c_j0 &= w2c_j1;
@@ -14755,7 +14739,7 @@ static void w2c_f9(Z_dine_ffi_instance_t* instance, u64 w2c_p0, u64 w2c_p1, u64 
         w2c_j1 = 9223372036854775804ull;
         w2c_j0 &= w2c_j1;
         w2c_l8 = w2c_j0;
-        w2c_L434: 
+        w2c_L439: 
           w2c_j0 = w2c_l4;
           w2c_j1 = w2c_l22;
           w2c_j0 += w2c_j1;
@@ -14804,12 +14788,12 @@ static void w2c_f9(Z_dine_ffi_instance_t* instance, u64 w2c_p0, u64 w2c_p1, u64 
           w2c_j1 += w2c_j2;
           w2c_l4 = w2c_j1;
           w2c_i0 = w2c_j0 != w2c_j1;
-          if (w2c_i0) {goto w2c_L434;}
+          if (w2c_i0) {goto w2c_L439;}
         w2c_j0 = w2c_l7;
         w2c_i0 = !(w2c_j0);
-        if (w2c_i0) {goto w2c_B423;}
+        if (w2c_i0) {goto w2c_B428;}
       }
-      w2c_L435: 
+      w2c_L440: 
         w2c_j0 = w2c_l4;
         w2c_j1 = w2c_l22;
         w2c_j0 += w2c_j1;
@@ -14830,19 +14814,19 @@ static void w2c_f9(Z_dine_ffi_instance_t* instance, u64 w2c_p0, u64 w2c_p1, u64 
         w2c_l7 = w2c_j0;
         w2c_j1 = 0ull;
         w2c_i0 = w2c_j0 != w2c_j1;
-        if (w2c_i0) {goto w2c_L435;}
-      goto w2c_B423;
-      w2c_B432:;
+        if (w2c_i0) {goto w2c_L440;}
+      goto w2c_B428;
+      w2c_B437:;
       w2c_j0 = w2c_l9;
       w2c_f22(instance, w2c_j0);
-      goto w2c_B360;
-      w2c_B431:;
+      goto w2c_B365;
+      w2c_B436:;
       w2c_j0 = 0ull;
       w2c_l15 = w2c_j0;
-      w2c_B424:;
+      w2c_B429:;
       w2c_j0 = w2c_l15;
       w2c_i0 = !(w2c_j0);
-      if (w2c_i0) {goto w2c_B423;}
+      if (w2c_i0) {goto w2c_B428;}
       w2c_j0 = w2c_l22;
       w2c_i0 = (u32)(w2c_j0);
       w2c_j1 = w2c_l11;
@@ -14850,7 +14834,7 @@ static void w2c_f9(Z_dine_ffi_instance_t* instance, u64 w2c_p0, u64 w2c_p1, u64 
       w2c_j2 = w2c_l15;
       w2c_i2 = (u32)(w2c_j2);
       memory_copy(&instance->w2c_memory, &instance->w2c_memory, w2c_i0, w2c_i1, w2c_i2);
-      w2c_B423:;
+      w2c_B428:;
       w2c_j0 = w2c_l3;
       w2c_i0 = (u32)(w2c_j0);
       w2c_j1 = 6ull;
@@ -14866,11 +14850,11 @@ static void w2c_f9(Z_dine_ffi_instance_t* instance, u64 w2c_p0, u64 w2c_p1, u64 
       if (w2c_i0) {
         w2c_j0 = 0ull;
         w2c_l11 = w2c_j0;
-        goto w2c_B436;
+        goto w2c_B441;
       }
       w2c_j0 = w2c_l9;
       w2c_l6 = w2c_j0;
-      w2c_L438: 
+      w2c_L443: 
         w2c_j0 = 0ull;
         w2c_l11 = w2c_j0;
         w2c_j0 = 0ull;
@@ -14892,7 +14876,7 @@ static void w2c_f9(Z_dine_ffi_instance_t* instance, u64 w2c_p0, u64 w2c_p1, u64 
           w2c_l5 = w2c_j0;
           w2c_j0 = 0ull;
           w2c_p1 = w2c_j0;
-          w2c_L442: 
+          w2c_L447: 
             w2c_j0 = w2c_l4;
             w2c_j1 = 8ull;
             w2c_j0 -= w2c_j1;
@@ -14906,11 +14890,11 @@ static void w2c_f9(Z_dine_ffi_instance_t* instance, u64 w2c_p0, u64 w2c_p1, u64 
             w2c_j0 = w2c_l3;
             w2c_i0 = (u32)(w2c_j0);
             w2c_j1 = 8ull;
-            i64_store(&instance->w2c_memory, (u64)(w2c_i0) + 960, w2c_j1);
+            i64_store(&instance->w2c_memory, (u64)(w2c_i0) + 896, w2c_j1);
             w2c_j0 = w2c_l3;
             w2c_i0 = (u32)(w2c_j0);
             w2c_j1 = 1059793ull;
-            i64_store(&instance->w2c_memory, (u64)(w2c_i0) + 952, w2c_j1);
+            i64_store(&instance->w2c_memory, (u64)(w2c_i0) + 888, w2c_j1);
             w2c_j0 = w2c_l3;
             w2c_i0 = (u32)(w2c_j0);
             w2c_j1 = w2c_l8;
@@ -14920,7 +14904,7 @@ static void w2c_f9(Z_dine_ffi_instance_t* instance, u64 w2c_p0, u64 w2c_p1, u64 
             w2c_j1 = w2c_l7;
             i64_store(&instance->w2c_memory, (u64)(w2c_i0) + 584, w2c_j1);
             w2c_j0 = w2c_l3;
-            w2c_j1 = 952ull;
+            w2c_j1 = 888ull;
             w2c_j0 += w2c_j1;
             w2c_j1 = w2c_l3;
             w2c_j2 = 584ull;
@@ -14935,8 +14919,8 @@ static void w2c_f9(Z_dine_ffi_instance_t* instance, u64 w2c_p0, u64 w2c_p1, u64 
               w2c_i0 = w2c_l41;
               w2c_i1 = 1u;
               w2c_i0 -= w2c_i1;
-              if (w2c_i0) {goto w2c_B441;}
-              goto w2c_B439;
+              if (w2c_i0) {goto w2c_B446;}
+              goto w2c_B444;
             }
             w2c_j0 = w2c_l4;
             w2c_j1 = 24ull;
@@ -14952,10 +14936,10 @@ static void w2c_f9(Z_dine_ffi_instance_t* instance, u64 w2c_p0, u64 w2c_p1, u64 
             w2c_j1 += w2c_j2;
             w2c_p1 = w2c_j1;
             w2c_i0 = w2c_j0 != w2c_j1;
-            if (w2c_i0) {goto w2c_L442;}
+            if (w2c_i0) {goto w2c_L447;}
           w2c_j0 = w2c_p2;
           w2c_p1 = w2c_j0;
-          w2c_B441:;
+          w2c_B446:;
           w2c_j0 = w2c_p1;
           w2c_j1 = 3ull;
           w2c_j0 <<= (w2c_j1 & 63);
@@ -14967,7 +14951,7 @@ static void w2c_f9(Z_dine_ffi_instance_t* instance, u64 w2c_p0, u64 w2c_p1, u64 
         w2c_i0 = (u32)(w2c_j0);
         w2c_i0 = i32_load16_u(&instance->w2c_memory, (u64)(w2c_i0));
         w2c_i0 = !(w2c_i0);
-        if (w2c_i0) {goto w2c_B436;}
+        if (w2c_i0) {goto w2c_B441;}
         w2c_j0 = w2c_l4;
         w2c_j1 = w2c_l6;
         w2c_j0 += w2c_j1;
@@ -14976,14 +14960,14 @@ static void w2c_f9(Z_dine_ffi_instance_t* instance, u64 w2c_p0, u64 w2c_p1, u64 
         w2c_i0 = (u32)(w2c_j0);
         w2c_j0 = i64_load(&instance->w2c_memory, (u64)(w2c_i0));
         w2c_l6 = w2c_j0;
-        goto w2c_L438;
-        w2c_B439:;
+        goto w2c_L443;
+        w2c_B444:;
       w2c_j0 = w2c_l5;
       w2c_j1 = 16ull;
       w2c_j0 -= w2c_j1;
       w2c_i0 = (u32)(w2c_j0);
       w2c_i0 = i32_load8_u(&instance->w2c_memory, (u64)(w2c_i0));
-      if (w2c_i0) {goto w2c_B436;}
+      if (w2c_i0) {goto w2c_B441;}
       w2c_j0 = w2c_l5;
       w2c_j1 = 8ull;
       w2c_j0 -= w2c_j1;
@@ -14994,17 +14978,17 @@ static void w2c_f9(Z_dine_ffi_instance_t* instance, u64 w2c_p0, u64 w2c_p1, u64 
       w2c_i0 = (u32)(w2c_j0);
       w2c_j0 = i64_load(&instance->w2c_memory, (u64)(w2c_i0));
       w2c_l11 = w2c_j0;
-      w2c_B436:;
+      w2c_B441:;
       w2c_j0 = w2c_l3;
       w2c_i0 = (u32)(w2c_j0);
       w2c_j1 = w2c_l11;
-      i64_store(&instance->w2c_memory, (u64)(w2c_i0) + 960, w2c_j1);
+      i64_store(&instance->w2c_memory, (u64)(w2c_i0) + 896, w2c_j1);
       w2c_j0 = w2c_l3;
       w2c_i0 = (u32)(w2c_j0);
       w2c_j1 = w2c_l17;
-      i64_store(&instance->w2c_memory, (u64)(w2c_i0) + 952, w2c_j1);
+      i64_store(&instance->w2c_memory, (u64)(w2c_i0) + 888, w2c_j1);
       w2c_j0 = w2c_l3;
-      w2c_j1 = 952ull;
+      w2c_j1 = 888ull;
       w2c_j0 += w2c_j1;
       w2c_j1 = w2c_l3;
       w2c_j2 = 520ull;
@@ -15017,10 +15001,10 @@ static void w2c_f9(Z_dine_ffi_instance_t* instance, u64 w2c_p0, u64 w2c_p1, u64 
       w2c_l49 = w2c_i0;
       w2c_i0 = w2c_l42;
       w2c_i0 = !(w2c_i0);
-      if (w2c_i0) {goto w2c_B444;}
+      if (w2c_i0) {goto w2c_B449;}
       w2c_j0 = w2c_l9;
       w2c_l6 = w2c_j0;
-      w2c_L447: 
+      w2c_L452: 
         w2c_j0 = w2c_l6;
         w2c_i0 = (u32)(w2c_j0);
         w2c_j0 = i64_load16_u(&instance->w2c_memory, (u64)(w2c_i0));
@@ -15039,7 +15023,7 @@ static void w2c_f9(Z_dine_ffi_instance_t* instance, u64 w2c_p0, u64 w2c_p1, u64 
           w2c_l8 = w2c_j0;
           w2c_j0 = 0ull;
           w2c_p1 = w2c_j0;
-          w2c_L451: 
+          w2c_L456: 
             w2c_j0 = w2c_l4;
             w2c_j1 = 8ull;
             w2c_j0 -= w2c_j1;
@@ -15053,11 +15037,11 @@ static void w2c_f9(Z_dine_ffi_instance_t* instance, u64 w2c_p0, u64 w2c_p1, u64 
             w2c_j0 = w2c_l3;
             w2c_i0 = (u32)(w2c_j0);
             w2c_j1 = 4ull;
-            i64_store(&instance->w2c_memory, (u64)(w2c_i0) + 960, w2c_j1);
+            i64_store(&instance->w2c_memory, (u64)(w2c_i0) + 896, w2c_j1);
             w2c_j0 = w2c_l3;
             w2c_i0 = (u32)(w2c_j0);
             w2c_j1 = 1059801ull;
-            i64_store(&instance->w2c_memory, (u64)(w2c_i0) + 952, w2c_j1);
+            i64_store(&instance->w2c_memory, (u64)(w2c_i0) + 888, w2c_j1);
             w2c_j0 = w2c_l3;
             w2c_i0 = (u32)(w2c_j0);
             w2c_j1 = w2c_l7;
@@ -15067,7 +15051,7 @@ static void w2c_f9(Z_dine_ffi_instance_t* instance, u64 w2c_p0, u64 w2c_p1, u64 
             w2c_j1 = w2c_l5;
             i64_store(&instance->w2c_memory, (u64)(w2c_i0) + 584, w2c_j1);
             w2c_j0 = w2c_l3;
-            w2c_j1 = 952ull;
+            w2c_j1 = 888ull;
             w2c_j0 += w2c_j1;
             w2c_j1 = w2c_l3;
             w2c_j2 = 584ull;
@@ -15082,8 +15066,8 @@ static void w2c_f9(Z_dine_ffi_instance_t* instance, u64 w2c_p0, u64 w2c_p1, u64 
               w2c_i0 = w2c_l41;
               w2c_i1 = 1u;
               w2c_i0 -= w2c_i1;
-              if (w2c_i0) {goto w2c_B450;}
-              goto w2c_B448;
+              if (w2c_i0) {goto w2c_B455;}
+              goto w2c_B453;
             }
             w2c_j0 = w2c_l4;
             w2c_j1 = 24ull;
@@ -15099,10 +15083,10 @@ static void w2c_f9(Z_dine_ffi_instance_t* instance, u64 w2c_p0, u64 w2c_p1, u64 
             w2c_j1 += w2c_j2;
             w2c_p1 = w2c_j1;
             w2c_i0 = w2c_j0 != w2c_j1;
-            if (w2c_i0) {goto w2c_L451;}
+            if (w2c_i0) {goto w2c_L456;}
           w2c_j0 = w2c_p2;
           w2c_p1 = w2c_j0;
-          w2c_B450:;
+          w2c_B455:;
           w2c_j0 = w2c_p1;
           w2c_j1 = 3ull;
           w2c_j0 <<= (w2c_j1 & 63);
@@ -15114,7 +15098,7 @@ static void w2c_f9(Z_dine_ffi_instance_t* instance, u64 w2c_p0, u64 w2c_p1, u64 
         w2c_i0 = (u32)(w2c_j0);
         w2c_i0 = i32_load16_u(&instance->w2c_memory, (u64)(w2c_i0));
         w2c_i0 = !(w2c_i0);
-        if (w2c_i0) {goto w2c_B446;}
+        if (w2c_i0) {goto w2c_B451;}
         w2c_j0 = w2c_l4;
         w2c_j1 = w2c_l6;
         w2c_j0 += w2c_j1;
@@ -15123,19 +15107,19 @@ static void w2c_f9(Z_dine_ffi_instance_t* instance, u64 w2c_p0, u64 w2c_p1, u64 
         w2c_i0 = (u32)(w2c_j0);
         w2c_j0 = i64_load(&instance->w2c_memory, (u64)(w2c_i0));
         w2c_l6 = w2c_j0;
-        goto w2c_L447;
-        w2c_B448:;
+        goto w2c_L452;
+        w2c_B453:;
       w2c_j0 = w2c_l8;
       w2c_i0 = (u32)(w2c_j0);
       w2c_i0 = i32_load8_u(&instance->w2c_memory, (u64)(w2c_i0));
       w2c_i0 = !(w2c_i0);
-      if (w2c_i0) {goto w2c_B446;}
+      if (w2c_i0) {goto w2c_B451;}
       w2c_i0 = 1u;
-      goto w2c_B445;
-      w2c_B446:;
+      goto w2c_B450;
+      w2c_B451:;
       w2c_j0 = w2c_l9;
       w2c_l6 = w2c_j0;
-      w2c_L453: 
+      w2c_L458: 
         w2c_j0 = w2c_l6;
         w2c_i0 = (u32)(w2c_j0);
         w2c_j0 = i64_load16_u(&instance->w2c_memory, (u64)(w2c_i0));
@@ -15154,7 +15138,7 @@ static void w2c_f9(Z_dine_ffi_instance_t* instance, u64 w2c_p0, u64 w2c_p1, u64 
           w2c_l8 = w2c_j0;
           w2c_j0 = 0ull;
           w2c_p1 = w2c_j0;
-          w2c_L457: 
+          w2c_L462: 
             w2c_j0 = w2c_l4;
             w2c_j1 = 8ull;
             w2c_j0 -= w2c_j1;
@@ -15168,11 +15152,11 @@ static void w2c_f9(Z_dine_ffi_instance_t* instance, u64 w2c_p0, u64 w2c_p1, u64 
             w2c_j0 = w2c_l3;
             w2c_i0 = (u32)(w2c_j0);
             w2c_j1 = 8ull;
-            i64_store(&instance->w2c_memory, (u64)(w2c_i0) + 960, w2c_j1);
+            i64_store(&instance->w2c_memory, (u64)(w2c_i0) + 896, w2c_j1);
             w2c_j0 = w2c_l3;
             w2c_i0 = (u32)(w2c_j0);
             w2c_j1 = 1059793ull;
-            i64_store(&instance->w2c_memory, (u64)(w2c_i0) + 952, w2c_j1);
+            i64_store(&instance->w2c_memory, (u64)(w2c_i0) + 888, w2c_j1);
             w2c_j0 = w2c_l3;
             w2c_i0 = (u32)(w2c_j0);
             w2c_j1 = w2c_l7;
@@ -15182,7 +15166,7 @@ static void w2c_f9(Z_dine_ffi_instance_t* instance, u64 w2c_p0, u64 w2c_p1, u64 
             w2c_j1 = w2c_l5;
             i64_store(&instance->w2c_memory, (u64)(w2c_i0) + 584, w2c_j1);
             w2c_j0 = w2c_l3;
-            w2c_j1 = 952ull;
+            w2c_j1 = 888ull;
             w2c_j0 += w2c_j1;
             w2c_j1 = w2c_l3;
             w2c_j2 = 584ull;
@@ -15197,8 +15181,8 @@ static void w2c_f9(Z_dine_ffi_instance_t* instance, u64 w2c_p0, u64 w2c_p1, u64 
               w2c_i0 = w2c_l41;
               w2c_i1 = 1u;
               w2c_i0 -= w2c_i1;
-              if (w2c_i0) {goto w2c_B456;}
-              goto w2c_B454;
+              if (w2c_i0) {goto w2c_B461;}
+              goto w2c_B459;
             }
             w2c_j0 = w2c_l4;
             w2c_j1 = 24ull;
@@ -15214,10 +15198,10 @@ static void w2c_f9(Z_dine_ffi_instance_t* instance, u64 w2c_p0, u64 w2c_p1, u64 
             w2c_j1 += w2c_j2;
             w2c_p1 = w2c_j1;
             w2c_i0 = w2c_j0 != w2c_j1;
-            if (w2c_i0) {goto w2c_L457;}
+            if (w2c_i0) {goto w2c_L462;}
           w2c_j0 = w2c_p2;
           w2c_p1 = w2c_j0;
-          w2c_B456:;
+          w2c_B461:;
           w2c_j0 = w2c_p1;
           w2c_j1 = 3ull;
           w2c_j0 <<= (w2c_j1 & 63);
@@ -15230,7 +15214,7 @@ static void w2c_f9(Z_dine_ffi_instance_t* instance, u64 w2c_p0, u64 w2c_p1, u64 
         w2c_i1 = (u32)(w2c_j1);
         w2c_i1 = i32_load16_u(&instance->w2c_memory, (u64)(w2c_i1));
         w2c_i1 = !(w2c_i1);
-        if (w2c_i1) {goto w2c_B445;}
+        if (w2c_i1) {goto w2c_B450;}
         w2c_j0 = w2c_l4;
         w2c_j1 = w2c_l6;
         w2c_j0 += w2c_j1;
@@ -15239,18 +15223,18 @@ static void w2c_f9(Z_dine_ffi_instance_t* instance, u64 w2c_p0, u64 w2c_p1, u64 
         w2c_i0 = (u32)(w2c_j0);
         w2c_j0 = i64_load(&instance->w2c_memory, (u64)(w2c_i0));
         w2c_l6 = w2c_j0;
-        goto w2c_L453;
-        w2c_B454:;
+        goto w2c_L458;
+        w2c_B459:;
       w2c_j0 = w2c_l8;
       w2c_i0 = (u32)(w2c_j0);
       w2c_i0 = i32_load8_u(&instance->w2c_memory, (u64)(w2c_i0));
       w2c_i1 = 0u;
       w2c_i0 = w2c_i0 != w2c_i1;
-      w2c_B445:;
+      w2c_B450:;
       w2c_l42 = w2c_i0;
       w2c_j0 = w2c_l9;
       w2c_l6 = w2c_j0;
-      w2c_L459: 
+      w2c_L464: 
         w2c_j0 = w2c_l6;
         w2c_i0 = (u32)(w2c_j0);
         w2c_j0 = i64_load16_u(&instance->w2c_memory, (u64)(w2c_i0));
@@ -15269,7 +15253,7 @@ static void w2c_f9(Z_dine_ffi_instance_t* instance, u64 w2c_p0, u64 w2c_p1, u64 
           w2c_l5 = w2c_j0;
           w2c_j0 = 0ull;
           w2c_p1 = w2c_j0;
-          w2c_L463: 
+          w2c_L468: 
             w2c_j0 = w2c_l4;
             w2c_j1 = 8ull;
             w2c_j0 -= w2c_j1;
@@ -15283,11 +15267,11 @@ static void w2c_f9(Z_dine_ffi_instance_t* instance, u64 w2c_p0, u64 w2c_p1, u64 
             w2c_j0 = w2c_l3;
             w2c_i0 = (u32)(w2c_j0);
             w2c_j1 = 4ull;
-            i64_store(&instance->w2c_memory, (u64)(w2c_i0) + 960, w2c_j1);
+            i64_store(&instance->w2c_memory, (u64)(w2c_i0) + 896, w2c_j1);
             w2c_j0 = w2c_l3;
             w2c_i0 = (u32)(w2c_j0);
             w2c_j1 = 1059805ull;
-            i64_store(&instance->w2c_memory, (u64)(w2c_i0) + 952, w2c_j1);
+            i64_store(&instance->w2c_memory, (u64)(w2c_i0) + 888, w2c_j1);
             w2c_j0 = w2c_l3;
             w2c_i0 = (u32)(w2c_j0);
             w2c_j1 = w2c_l8;
@@ -15297,7 +15281,7 @@ static void w2c_f9(Z_dine_ffi_instance_t* instance, u64 w2c_p0, u64 w2c_p1, u64 
             w2c_j1 = w2c_l7;
             i64_store(&instance->w2c_memory, (u64)(w2c_i0) + 584, w2c_j1);
             w2c_j0 = w2c_l3;
-            w2c_j1 = 952ull;
+            w2c_j1 = 888ull;
             w2c_j0 += w2c_j1;
             w2c_j1 = w2c_l3;
             w2c_j2 = 584ull;
@@ -15312,8 +15296,8 @@ static void w2c_f9(Z_dine_ffi_instance_t* instance, u64 w2c_p0, u64 w2c_p1, u64 
               w2c_i0 = w2c_l41;
               w2c_i1 = 1u;
               w2c_i0 -= w2c_i1;
-              if (w2c_i0) {goto w2c_B462;}
-              goto w2c_B460;
+              if (w2c_i0) {goto w2c_B467;}
+              goto w2c_B465;
             }
             w2c_j0 = w2c_l4;
             w2c_j1 = 24ull;
@@ -15329,10 +15313,10 @@ static void w2c_f9(Z_dine_ffi_instance_t* instance, u64 w2c_p0, u64 w2c_p1, u64 
             w2c_j1 += w2c_j2;
             w2c_p1 = w2c_j1;
             w2c_i0 = w2c_j0 != w2c_j1;
-            if (w2c_i0) {goto w2c_L463;}
+            if (w2c_i0) {goto w2c_L468;}
           w2c_j0 = w2c_p2;
           w2c_p1 = w2c_j0;
-          w2c_B462:;
+          w2c_B467:;
           w2c_j0 = w2c_p1;
           w2c_j1 = 3ull;
           w2c_j0 <<= (w2c_j1 & 63);
@@ -15352,14 +15336,14 @@ static void w2c_f9(Z_dine_ffi_instance_t* instance, u64 w2c_p0, u64 w2c_p1, u64 
           w2c_i0 = (u32)(w2c_j0);
           w2c_j0 = i64_load(&instance->w2c_memory, (u64)(w2c_i0));
           w2c_l6 = w2c_j0;
-          goto w2c_L459;
+          goto w2c_L464;
         } else {
           w2c_i0 = w2c_l42;
           w2c_l49 = w2c_i0;
-          goto w2c_B444;
+          goto w2c_B449;
         }
         UNREACHABLE;
-        w2c_B460:;
+        w2c_B465:;
       w2c_i0 = 1u;
       w2c_l49 = w2c_i0;
       w2c_j0 = w2c_l5;
@@ -15369,7 +15353,7 @@ static void w2c_f9(Z_dine_ffi_instance_t* instance, u64 w2c_p0, u64 w2c_p1, u64 
       w2c_i0 = i32_load8_u(&instance->w2c_memory, (u64)(w2c_i0));
       w2c_i1 = 5u;
       w2c_i0 = w2c_i0 != w2c_i1;
-      if (w2c_i0) {goto w2c_B444;}
+      if (w2c_i0) {goto w2c_B449;}
       w2c_j0 = w2c_l5;
       w2c_i0 = (u32)(w2c_j0);
       w2c_j0 = i64_load(&instance->w2c_memory, (u64)(w2c_i0));
@@ -15382,7 +15366,7 @@ static void w2c_f9(Z_dine_ffi_instance_t* instance, u64 w2c_p0, u64 w2c_p1, u64 
       w2c_i0 = (u32)(w2c_j0);
       w2c_j0 = i64_load(&instance->w2c_memory, (u64)(w2c_i0));
       w2c_l4 = w2c_j0;
-      w2c_L466: 
+      w2c_L471: 
         w2c_j0 = w2c_p1;
         w2c_j1 = 1ull;
         w2c_j0 -= w2c_j1;
@@ -15391,7 +15375,7 @@ static void w2c_f9(Z_dine_ffi_instance_t* instance, u64 w2c_p0, u64 w2c_p1, u64 
         if (w2c_i0) {
           w2c_i0 = w2c_l42;
           w2c_l49 = w2c_i0;
-          goto w2c_B444;
+          goto w2c_B449;
         }
         w2c_j0 = w2c_l4;
         w2c_i0 = (u32)(w2c_j0);
@@ -15404,41 +15388,41 @@ static void w2c_f9(Z_dine_ffi_instance_t* instance, u64 w2c_p0, u64 w2c_p1, u64 
         w2c_i0 = w2c_l41;
         w2c_i1 = 6u;
         w2c_i0 = w2c_i0 == w2c_i1;
-        if (w2c_i0) {goto w2c_L466;}
-      w2c_B444:;
+        if (w2c_i0) {goto w2c_L471;}
+      w2c_B449:;
       w2c_j0 = w2c_l3;
       w2c_i0 = (u32)(w2c_j0);
       w2c_i1 = w2c_l44;
-      i32_store(&instance->w2c_memory, (u64)(w2c_i0) + 1248, w2c_i1);
+      i32_store(&instance->w2c_memory, (u64)(w2c_i0) + 1184, w2c_i1);
       w2c_j0 = w2c_l3;
       w2c_i0 = (u32)(w2c_j0);
       w2c_j1 = w2c_l13;
-      i64_store(&instance->w2c_memory, (u64)(w2c_i0) + 1240, w2c_j1);
+      i64_store(&instance->w2c_memory, (u64)(w2c_i0) + 1176, w2c_j1);
       w2c_j0 = w2c_l3;
       w2c_i0 = (u32)(w2c_j0);
       w2c_j1 = w2c_l9;
-      i64_store(&instance->w2c_memory, (u64)(w2c_i0) + 1232, w2c_j1);
+      i64_store(&instance->w2c_memory, (u64)(w2c_i0) + 1168, w2c_j1);
       w2c_j0 = w2c_l3;
       w2c_i0 = (u32)(w2c_j0);
       w2c_j1 = w2c_l14;
-      i64_store(&instance->w2c_memory, (u64)(w2c_i0) + 1224, w2c_j1);
+      i64_store(&instance->w2c_memory, (u64)(w2c_i0) + 1160, w2c_j1);
       w2c_j0 = w2c_l3;
       w2c_i0 = (u32)(w2c_j0);
       w2c_i1 = w2c_l45;
-      i32_store(&instance->w2c_memory, (u64)(w2c_i0) + 1220, w2c_i1);
+      i32_store(&instance->w2c_memory, (u64)(w2c_i0) + 1156, w2c_i1);
       w2c_j0 = w2c_l3;
       w2c_i0 = (u32)(w2c_j0);
       w2c_i1 = w2c_l47;
-      i32_store8(&instance->w2c_memory, (u64)(w2c_i0) + 1217, w2c_i1);
+      i32_store8(&instance->w2c_memory, (u64)(w2c_i0) + 1153, w2c_i1);
       w2c_j0 = w2c_l3;
       w2c_i0 = (u32)(w2c_j0);
       w2c_i1 = w2c_l43;
-      i32_store8(&instance->w2c_memory, (u64)(w2c_i0) + 1216, w2c_i1);
+      i32_store8(&instance->w2c_memory, (u64)(w2c_i0) + 1152, w2c_i1);
       w2c_j0 = w2c_l3;
-      w2c_j1 = 1256ull;
+      w2c_j1 = 1192ull;
       w2c_j0 += w2c_j1;
       w2c_j1 = w2c_l3;
-      w2c_j2 = 1216ull;
+      w2c_j2 = 1152ull;
       w2c_j1 += w2c_j2;
       w2c_j2 = 1059805ull;
       w2c_f30(instance, w2c_j0, w2c_j1, w2c_j2);
@@ -15447,23 +15431,15 @@ static void w2c_f9(Z_dine_ffi_instance_t* instance, u64 w2c_p0, u64 w2c_p1, u64 
       w2c_j0 = w2c_l3;
       w2c_i0 = (u32)(w2c_j0);
       w2c_j1 = 0ull;
-      i64_store(&instance->w2c_memory, (u64)(w2c_i0) + 1320, w2c_j1);
+      i64_store(&instance->w2c_memory, (u64)(w2c_i0) + 1256, w2c_j1);
       w2c_j0 = w2c_l3;
       w2c_i0 = (u32)(w2c_j0);
       w2c_j1 = 0ull;
-      i64_store(&instance->w2c_memory, (u64)(w2c_i0) + 1328, w2c_j1);
+      i64_store(&instance->w2c_memory, (u64)(w2c_i0) + 1264, w2c_j1);
       w2c_j0 = w2c_l3;
       w2c_i0 = (u32)(w2c_j0);
       w2c_j1 = 0ull;
-      i64_store(&instance->w2c_memory, (u64)(w2c_i0) + 1336, w2c_j1);
-      w2c_j0 = w2c_l3;
-      w2c_i0 = (u32)(w2c_j0);
-      w2c_j1 = 0ull;
-      i64_store(&instance->w2c_memory, (u64)(w2c_i0) + 1344, w2c_j1);
-      w2c_j0 = w2c_l3;
-      w2c_i0 = (u32)(w2c_j0);
-      w2c_j1 = 0ull;
-      i64_store(&instance->w2c_memory, (u64)(w2c_i0) + 1352, w2c_j1);
+      i64_store(&instance->w2c_memory, (u64)(w2c_i0) + 1272, w2c_j1);
       w2c_j0 = w2c_l3;
       w2c_i0 = (u32)(w2c_j0);
       w2c_j1 = 0ull;
@@ -15475,47 +15451,55 @@ static void w2c_f9(Z_dine_ffi_instance_t* instance, u64 w2c_p0, u64 w2c_p1, u64 
       w2c_j0 = w2c_l3;
       w2c_i0 = (u32)(w2c_j0);
       w2c_j1 = 0ull;
-      i64_store(&instance->w2c_memory, (u64)(w2c_i0) + 1296, w2c_j1);
+      i64_store(&instance->w2c_memory, (u64)(w2c_i0) + 1216, w2c_j1);
       w2c_j0 = w2c_l3;
       w2c_i0 = (u32)(w2c_j0);
       w2c_j1 = 0ull;
-      i64_store(&instance->w2c_memory, (u64)(w2c_i0) + 1304, w2c_j1);
+      i64_store(&instance->w2c_memory, (u64)(w2c_i0) + 1224, w2c_j1);
       w2c_j0 = w2c_l3;
       w2c_i0 = (u32)(w2c_j0);
       w2c_j1 = 0ull;
-      i64_store(&instance->w2c_memory, (u64)(w2c_i0) + 1312, w2c_j1);
+      i64_store(&instance->w2c_memory, (u64)(w2c_i0) + 1232, w2c_j1);
       w2c_j0 = w2c_l3;
       w2c_i0 = (u32)(w2c_j0);
-      w2c_j0 = i64_load(&instance->w2c_memory, (u64)(w2c_i0) + 1272u);
+      w2c_j1 = 0ull;
+      i64_store(&instance->w2c_memory, (u64)(w2c_i0) + 1240, w2c_j1);
+      w2c_j0 = w2c_l3;
+      w2c_i0 = (u32)(w2c_j0);
+      w2c_j1 = 0ull;
+      i64_store(&instance->w2c_memory, (u64)(w2c_i0) + 1248, w2c_j1);
+      w2c_j0 = w2c_l3;
+      w2c_i0 = (u32)(w2c_j0);
+      w2c_j0 = i64_load(&instance->w2c_memory, (u64)(w2c_i0) + 1208u);
       w2c_l36 = w2c_j0;
       w2c_j0 = w2c_l3;
       w2c_i0 = (u32)(w2c_j0);
-      w2c_j0 = i64_load(&instance->w2c_memory, (u64)(w2c_i0) + 1256u);
+      w2c_j0 = i64_load(&instance->w2c_memory, (u64)(w2c_i0) + 1192u);
       w2c_l29 = w2c_j0;
       w2c_j0 = w2c_l3;
       w2c_i0 = (u32)(w2c_j0);
-      w2c_j0 = i64_load(&instance->w2c_memory, (u64)(w2c_i0) + 1264u);
+      w2c_j0 = i64_load(&instance->w2c_memory, (u64)(w2c_i0) + 1200u);
       w2c_l21 = w2c_j0;
       w2c_i0 = !(w2c_j0);
       if (w2c_i0) {
         w2c_j0 = 0ull;
         w2c_l14 = w2c_j0;
         w2c_j0 = w2c_l3;
-        w2c_j1 = 1384ull;
+        w2c_j1 = 1320ull;
         w2c_j0 += w2c_j1;
-        goto w2c_B471;
+        goto w2c_B476;
       }
       w2c_j0 = w2c_l21;
       w2c_j1 = 164703072086692425ull;
       w2c_i0 = w2c_j0 > w2c_j1;
-      if (w2c_i0) {goto w2c_B363;}
+      if (w2c_i0) {goto w2c_B368;}
       w2c_j0 = w2c_l3;
       w2c_j1 = 8ull;
       w2c_j0 += w2c_j1;
       w2c_j1 = w2c_l21;
       w2c_j2 = 56ull;
       w2c_j1 *= w2c_j2;
-      w2c_f136(instance, w2c_j0, w2c_j1);
+      w2c_f140(instance, w2c_j0, w2c_j1);
       w2c_j0 = w2c_l3;
       w2c_i0 = (u32)(w2c_j0);
       w2c_j0 = i64_load(&instance->w2c_memory, (u64)(w2c_i0) + 8u);
@@ -15523,7 +15507,7 @@ static void w2c_f9(Z_dine_ffi_instance_t* instance, u64 w2c_p0, u64 w2c_p1, u64 
       w2c_i1 = 1u;
       w2c_i0 &= w2c_i1;
       w2c_i0 = !(w2c_i0);
-      if (w2c_i0) {goto w2c_B363;}
+      if (w2c_i0) {goto w2c_B368;}
       w2c_j0 = w2c_l3;
       w2c_i0 = (u32)(w2c_j0);
       w2c_j0 = i64_load(&instance->w2c_memory, (u64)(w2c_i0) + 16u);
@@ -15531,22 +15515,22 @@ static void w2c_f9(Z_dine_ffi_instance_t* instance, u64 w2c_p0, u64 w2c_p1, u64 
       w2c_j0 = w2c_l3;
       w2c_i0 = (u32)(w2c_j0);
       w2c_j1 = w2c_l21;
-      i64_store(&instance->w2c_memory, (u64)(w2c_i0) + 1376, w2c_j1);
+      i64_store(&instance->w2c_memory, (u64)(w2c_i0) + 1312, w2c_j1);
       w2c_j0 = 0ull;
       w2c_l14 = w2c_j0;
       w2c_j0 = w2c_l3;
       w2c_i0 = (u32)(w2c_j0);
       w2c_j1 = 0ull;
-      i64_store(&instance->w2c_memory, (u64)(w2c_i0) + 1368, w2c_j1);
+      i64_store(&instance->w2c_memory, (u64)(w2c_i0) + 1304, w2c_j1);
       w2c_j0 = w2c_l3;
       w2c_i0 = (u32)(w2c_j0);
       w2c_j1 = w2c_l28;
-      i64_store(&instance->w2c_memory, (u64)(w2c_i0) + 1360, w2c_j1);
+      i64_store(&instance->w2c_memory, (u64)(w2c_i0) + 1296, w2c_j1);
       w2c_j0 = 0ull;
       w2c_l17 = w2c_j0;
       w2c_j0 = w2c_l21;
       w2c_l13 = w2c_j0;
-      w2c_L473: 
+      w2c_L478: 
         w2c_j0 = w2c_l29;
         w2c_j1 = w2c_l17;
         w2c_j2 = 40ull;
@@ -15605,7 +15589,7 @@ static void w2c_f9(Z_dine_ffi_instance_t* instance, u64 w2c_p0, u64 w2c_p1, u64 
           w2c_l9 = w2c_j0;
           w2c_i0 = 0u;
           w2c_l41 = w2c_i0;
-          goto w2c_B474;
+          goto w2c_B479;
         }
         w2c_i0 = 0u;
         w2c_l43 = w2c_i0;
@@ -15626,10 +15610,10 @@ static void w2c_f9(Z_dine_ffi_instance_t* instance, u64 w2c_p0, u64 w2c_p1, u64 
         w2c_i0 &= w2c_i1;
         w2c_i1 = 1u;
         w2c_i0 = w2c_i0 != w2c_i1;
-        if (w2c_i0) {goto w2c_B474;}
+        if (w2c_i0) {goto w2c_B479;}
         w2c_j0 = w2c_l12;
         w2c_l6 = w2c_j0;
-        w2c_L477: 
+        w2c_L482: 
           w2c_j0 = w2c_l6;
           w2c_i0 = (u32)(w2c_j0);
           w2c_j0 = i64_load16_u(&instance->w2c_memory, (u64)(w2c_i0));
@@ -15648,7 +15632,7 @@ static void w2c_f9(Z_dine_ffi_instance_t* instance, u64 w2c_p0, u64 w2c_p1, u64 
             w2c_l5 = w2c_j0;
             w2c_j0 = 0ull;
             w2c_p1 = w2c_j0;
-            w2c_L481: 
+            w2c_L486: 
               w2c_j0 = w2c_l4;
               w2c_j1 = 8ull;
               w2c_j0 -= w2c_j1;
@@ -15662,11 +15646,11 @@ static void w2c_f9(Z_dine_ffi_instance_t* instance, u64 w2c_p0, u64 w2c_p1, u64 
               w2c_j0 = w2c_l3;
               w2c_i0 = (u32)(w2c_j0);
               w2c_j1 = 5ull;
-              i64_store(&instance->w2c_memory, (u64)(w2c_i0) + 960, w2c_j1);
+              i64_store(&instance->w2c_memory, (u64)(w2c_i0) + 896, w2c_j1);
               w2c_j0 = w2c_l3;
               w2c_i0 = (u32)(w2c_j0);
               w2c_j1 = 1060094ull;
-              i64_store(&instance->w2c_memory, (u64)(w2c_i0) + 952, w2c_j1);
+              i64_store(&instance->w2c_memory, (u64)(w2c_i0) + 888, w2c_j1);
               w2c_j0 = w2c_l3;
               w2c_i0 = (u32)(w2c_j0);
               w2c_j1 = w2c_l8;
@@ -15676,7 +15660,7 @@ static void w2c_f9(Z_dine_ffi_instance_t* instance, u64 w2c_p0, u64 w2c_p1, u64 
               w2c_j1 = w2c_l7;
               i64_store(&instance->w2c_memory, (u64)(w2c_i0) + 584, w2c_j1);
               w2c_j0 = w2c_l3;
-              w2c_j1 = 952ull;
+              w2c_j1 = 888ull;
               w2c_j0 += w2c_j1;
               w2c_j1 = w2c_l3;
               w2c_j2 = 584ull;
@@ -15691,8 +15675,8 @@ static void w2c_f9(Z_dine_ffi_instance_t* instance, u64 w2c_p0, u64 w2c_p1, u64 
                 w2c_i0 = w2c_l41;
                 w2c_i1 = 1u;
                 w2c_i0 -= w2c_i1;
-                if (w2c_i0) {goto w2c_B480;}
-                goto w2c_B478;
+                if (w2c_i0) {goto w2c_B485;}
+                goto w2c_B483;
               }
               w2c_j0 = w2c_l4;
               w2c_j1 = 24ull;
@@ -15708,10 +15692,10 @@ static void w2c_f9(Z_dine_ffi_instance_t* instance, u64 w2c_p0, u64 w2c_p1, u64 
               w2c_j1 += w2c_j2;
               w2c_p1 = w2c_j1;
               w2c_i0 = w2c_j0 != w2c_j1;
-              if (w2c_i0) {goto w2c_L481;}
+              if (w2c_i0) {goto w2c_L486;}
             w2c_j0 = w2c_p2;
             w2c_p1 = w2c_j0;
-            w2c_B480:;
+            w2c_B485:;
             w2c_j0 = w2c_p1;
             w2c_j1 = 3ull;
             w2c_j0 <<= (w2c_j1 & 63);
@@ -15724,7 +15708,7 @@ static void w2c_f9(Z_dine_ffi_instance_t* instance, u64 w2c_p0, u64 w2c_p1, u64 
           w2c_i1 = (u32)(w2c_j1);
           w2c_i1 = i32_load16_u(&instance->w2c_memory, (u64)(w2c_i1));
           w2c_i1 = !(w2c_i1);
-          if (w2c_i1) {goto w2c_B476;}
+          if (w2c_i1) {goto w2c_B481;}
           w2c_j0 = w2c_l4;
           w2c_j1 = w2c_l6;
           w2c_j0 += w2c_j1;
@@ -15733,8 +15717,8 @@ static void w2c_f9(Z_dine_ffi_instance_t* instance, u64 w2c_p0, u64 w2c_p1, u64 
           w2c_i0 = (u32)(w2c_j0);
           w2c_j0 = i64_load(&instance->w2c_memory, (u64)(w2c_i0));
           w2c_l6 = w2c_j0;
-          goto w2c_L477;
-          w2c_B478:;
+          goto w2c_L482;
+          w2c_B483:;
         w2c_j0 = w2c_l5;
         w2c_j1 = 8ull;
         w2c_j0 -= w2c_j1;
@@ -15773,11 +15757,11 @@ static void w2c_f9(Z_dine_ffi_instance_t* instance, u64 w2c_p0, u64 w2c_p1, u64 
         w2c_i2 = 1u;
         w2c_i1 = w2c_i1 != w2c_i2;
         w2c_i0 |= w2c_i1;
-        w2c_B476:;
+        w2c_B481:;
         w2c_l43 = w2c_i0;
         w2c_j0 = w2c_l12;
         w2c_l6 = w2c_j0;
-        w2c_L486: 
+        w2c_L491: 
           w2c_j0 = w2c_l6;
           w2c_i0 = (u32)(w2c_j0);
           w2c_j0 = i64_load16_u(&instance->w2c_memory, (u64)(w2c_i0));
@@ -15796,7 +15780,7 @@ static void w2c_f9(Z_dine_ffi_instance_t* instance, u64 w2c_p0, u64 w2c_p1, u64 
             w2c_l5 = w2c_j0;
             w2c_j0 = 0ull;
             w2c_p1 = w2c_j0;
-            w2c_L490: 
+            w2c_L495: 
               w2c_j0 = w2c_l4;
               w2c_j1 = 8ull;
               w2c_j0 -= w2c_j1;
@@ -15810,11 +15794,11 @@ static void w2c_f9(Z_dine_ffi_instance_t* instance, u64 w2c_p0, u64 w2c_p1, u64 
               w2c_j0 = w2c_l3;
               w2c_i0 = (u32)(w2c_j0);
               w2c_j1 = 5ull;
-              i64_store(&instance->w2c_memory, (u64)(w2c_i0) + 960, w2c_j1);
+              i64_store(&instance->w2c_memory, (u64)(w2c_i0) + 896, w2c_j1);
               w2c_j0 = w2c_l3;
               w2c_i0 = (u32)(w2c_j0);
               w2c_j1 = 1060099ull;
-              i64_store(&instance->w2c_memory, (u64)(w2c_i0) + 952, w2c_j1);
+              i64_store(&instance->w2c_memory, (u64)(w2c_i0) + 888, w2c_j1);
               w2c_j0 = w2c_l3;
               w2c_i0 = (u32)(w2c_j0);
               w2c_j1 = w2c_l8;
@@ -15824,7 +15808,7 @@ static void w2c_f9(Z_dine_ffi_instance_t* instance, u64 w2c_p0, u64 w2c_p1, u64 
               w2c_j1 = w2c_l7;
               i64_store(&instance->w2c_memory, (u64)(w2c_i0) + 584, w2c_j1);
               w2c_j0 = w2c_l3;
-              w2c_j1 = 952ull;
+              w2c_j1 = 888ull;
               w2c_j0 += w2c_j1;
               w2c_j1 = w2c_l3;
               w2c_j2 = 584ull;
@@ -15839,8 +15823,8 @@ static void w2c_f9(Z_dine_ffi_instance_t* instance, u64 w2c_p0, u64 w2c_p1, u64 
                 w2c_i0 = w2c_l41;
                 w2c_i1 = 1u;
                 w2c_i0 -= w2c_i1;
-                if (w2c_i0) {goto w2c_B489;}
-                goto w2c_B487;
+                if (w2c_i0) {goto w2c_B494;}
+                goto w2c_B492;
               }
               w2c_j0 = w2c_l4;
               w2c_j1 = 24ull;
@@ -15856,10 +15840,10 @@ static void w2c_f9(Z_dine_ffi_instance_t* instance, u64 w2c_p0, u64 w2c_p1, u64 
               w2c_j1 += w2c_j2;
               w2c_p1 = w2c_j1;
               w2c_i0 = w2c_j0 != w2c_j1;
-              if (w2c_i0) {goto w2c_L490;}
+              if (w2c_i0) {goto w2c_L495;}
             w2c_j0 = w2c_p2;
             w2c_p1 = w2c_j0;
-            w2c_B489:;
+            w2c_B494:;
             w2c_j0 = w2c_p1;
             w2c_j1 = 3ull;
             w2c_j0 <<= (w2c_j1 & 63);
@@ -15872,7 +15856,7 @@ static void w2c_f9(Z_dine_ffi_instance_t* instance, u64 w2c_p0, u64 w2c_p1, u64 
           w2c_i1 = (u32)(w2c_j1);
           w2c_i1 = i32_load16_u(&instance->w2c_memory, (u64)(w2c_i1));
           w2c_i1 = !(w2c_i1);
-          if (w2c_i1) {goto w2c_B485;}
+          if (w2c_i1) {goto w2c_B490;}
           w2c_j0 = w2c_l4;
           w2c_j1 = w2c_l6;
           w2c_j0 += w2c_j1;
@@ -15881,8 +15865,8 @@ static void w2c_f9(Z_dine_ffi_instance_t* instance, u64 w2c_p0, u64 w2c_p1, u64 
           w2c_i0 = (u32)(w2c_j0);
           w2c_j0 = i64_load(&instance->w2c_memory, (u64)(w2c_i0));
           w2c_l6 = w2c_j0;
-          goto w2c_L486;
-          w2c_B487:;
+          goto w2c_L491;
+          w2c_B492:;
         w2c_i0 = 1u;
         w2c_j1 = w2c_l5;
         w2c_j2 = 1ull;
@@ -15891,18 +15875,18 @@ static void w2c_f9(Z_dine_ffi_instance_t* instance, u64 w2c_p0, u64 w2c_p1, u64 
         w2c_i1 = i32_load8_u(&instance->w2c_memory, (u64)(w2c_i1));
         w2c_i2 = 3u;
         w2c_i1 = w2c_i1 != w2c_i2;
-        if (w2c_i1) {goto w2c_B484;}
+        if (w2c_i1) {goto w2c_B489;}
         w2c_j0 = w2c_l5;
         w2c_i0 = (u32)(w2c_j0);
         w2c_i0 = i32_load8_u(&instance->w2c_memory, (u64)(w2c_i0));
-        w2c_B485:;
+        w2c_B490:;
         w2c_l45 = w2c_i0;
         w2c_i0 = 0u;
-        w2c_B484:;
+        w2c_B489:;
         w2c_l47 = w2c_i0;
         w2c_j0 = w2c_l12;
         w2c_l6 = w2c_j0;
-        w2c_L493: 
+        w2c_L498: 
           w2c_j0 = 0ull;
           w2c_l4 = w2c_j0;
           w2c_j0 = w2c_l6;
@@ -15922,7 +15906,7 @@ static void w2c_f9(Z_dine_ffi_instance_t* instance, u64 w2c_p0, u64 w2c_p1, u64 
             w2c_l5 = w2c_j0;
             w2c_j0 = 0ull;
             w2c_p1 = w2c_j0;
-            w2c_L497: 
+            w2c_L502: 
               w2c_j0 = w2c_l4;
               w2c_j1 = 8ull;
               w2c_j0 -= w2c_j1;
@@ -15936,11 +15920,11 @@ static void w2c_f9(Z_dine_ffi_instance_t* instance, u64 w2c_p0, u64 w2c_p1, u64 
               w2c_j0 = w2c_l3;
               w2c_i0 = (u32)(w2c_j0);
               w2c_j1 = 3ull;
-              i64_store(&instance->w2c_memory, (u64)(w2c_i0) + 960, w2c_j1);
+              i64_store(&instance->w2c_memory, (u64)(w2c_i0) + 896, w2c_j1);
               w2c_j0 = w2c_l3;
               w2c_i0 = (u32)(w2c_j0);
               w2c_j1 = 1060088ull;
-              i64_store(&instance->w2c_memory, (u64)(w2c_i0) + 952, w2c_j1);
+              i64_store(&instance->w2c_memory, (u64)(w2c_i0) + 888, w2c_j1);
               w2c_j0 = w2c_l3;
               w2c_i0 = (u32)(w2c_j0);
               w2c_j1 = w2c_l8;
@@ -15950,7 +15934,7 @@ static void w2c_f9(Z_dine_ffi_instance_t* instance, u64 w2c_p0, u64 w2c_p1, u64 
               w2c_j1 = w2c_l7;
               i64_store(&instance->w2c_memory, (u64)(w2c_i0) + 584, w2c_j1);
               w2c_j0 = w2c_l3;
-              w2c_j1 = 952ull;
+              w2c_j1 = 888ull;
               w2c_j0 += w2c_j1;
               w2c_j1 = w2c_l3;
               w2c_j2 = 584ull;
@@ -15965,8 +15949,8 @@ static void w2c_f9(Z_dine_ffi_instance_t* instance, u64 w2c_p0, u64 w2c_p1, u64 
                 w2c_i0 = w2c_l41;
                 w2c_i1 = 1u;
                 w2c_i0 -= w2c_i1;
-                if (w2c_i0) {goto w2c_B496;}
-                goto w2c_B494;
+                if (w2c_i0) {goto w2c_B501;}
+                goto w2c_B499;
               }
               w2c_j0 = w2c_l4;
               w2c_j1 = 24ull;
@@ -15982,10 +15966,10 @@ static void w2c_f9(Z_dine_ffi_instance_t* instance, u64 w2c_p0, u64 w2c_p1, u64 
               w2c_j1 += w2c_j2;
               w2c_p1 = w2c_j1;
               w2c_i0 = w2c_j0 != w2c_j1;
-              if (w2c_i0) {goto w2c_L497;}
+              if (w2c_i0) {goto w2c_L502;}
             w2c_j0 = w2c_p2;
             w2c_p1 = w2c_j0;
-            w2c_B496:;
+            w2c_B501:;
             w2c_j0 = w2c_p1;
             w2c_j1 = 3ull;
             w2c_j0 <<= (w2c_j1 & 63);
@@ -15998,7 +15982,7 @@ static void w2c_f9(Z_dine_ffi_instance_t* instance, u64 w2c_p0, u64 w2c_p1, u64 
           w2c_i1 = (u32)(w2c_j1);
           w2c_i1 = i32_load16_u(&instance->w2c_memory, (u64)(w2c_i1));
           w2c_i1 = !(w2c_i1);
-          if (w2c_i1) {goto w2c_B492;}
+          if (w2c_i1) {goto w2c_B497;}
           w2c_j0 = w2c_l4;
           w2c_j1 = w2c_l6;
           w2c_j0 += w2c_j1;
@@ -16007,8 +15991,8 @@ static void w2c_f9(Z_dine_ffi_instance_t* instance, u64 w2c_p0, u64 w2c_p1, u64 
           w2c_i0 = (u32)(w2c_j0);
           w2c_j0 = i64_load(&instance->w2c_memory, (u64)(w2c_i0));
           w2c_l6 = w2c_j0;
-          goto w2c_L493;
-          w2c_B494:;
+          goto w2c_L498;
+          w2c_B499:;
         w2c_j0 = w2c_l5;
         w2c_j1 = 8ull;
         w2c_j0 -= w2c_j1;
@@ -16040,11 +16024,11 @@ static void w2c_f9(Z_dine_ffi_instance_t* instance, u64 w2c_p0, u64 w2c_p1, u64 
         w2c_i2 = 1u;
         w2c_i1 = w2c_i1 != w2c_i2;
         w2c_i0 |= w2c_i1;
-        w2c_B492:;
+        w2c_B497:;
         w2c_l53 = w2c_i0;
         w2c_j0 = w2c_l12;
         w2c_l6 = w2c_j0;
-        w2c_L500: 
+        w2c_L505: 
           w2c_j0 = 0ull;
           w2c_l4 = w2c_j0;
           w2c_j0 = w2c_l6;
@@ -16064,7 +16048,7 @@ static void w2c_f9(Z_dine_ffi_instance_t* instance, u64 w2c_p0, u64 w2c_p1, u64 
             w2c_l5 = w2c_j0;
             w2c_j0 = 0ull;
             w2c_p1 = w2c_j0;
-            w2c_L504: 
+            w2c_L509: 
               w2c_j0 = w2c_l4;
               w2c_j1 = 8ull;
               w2c_j0 -= w2c_j1;
@@ -16078,11 +16062,11 @@ static void w2c_f9(Z_dine_ffi_instance_t* instance, u64 w2c_p0, u64 w2c_p1, u64 
               w2c_j0 = w2c_l3;
               w2c_i0 = (u32)(w2c_j0);
               w2c_j1 = 3ull;
-              i64_store(&instance->w2c_memory, (u64)(w2c_i0) + 960, w2c_j1);
+              i64_store(&instance->w2c_memory, (u64)(w2c_i0) + 896, w2c_j1);
               w2c_j0 = w2c_l3;
               w2c_i0 = (u32)(w2c_j0);
               w2c_j1 = 1060091ull;
-              i64_store(&instance->w2c_memory, (u64)(w2c_i0) + 952, w2c_j1);
+              i64_store(&instance->w2c_memory, (u64)(w2c_i0) + 888, w2c_j1);
               w2c_j0 = w2c_l3;
               w2c_i0 = (u32)(w2c_j0);
               w2c_j1 = w2c_l8;
@@ -16092,7 +16076,7 @@ static void w2c_f9(Z_dine_ffi_instance_t* instance, u64 w2c_p0, u64 w2c_p1, u64 
               w2c_j1 = w2c_l7;
               i64_store(&instance->w2c_memory, (u64)(w2c_i0) + 584, w2c_j1);
               w2c_j0 = w2c_l3;
-              w2c_j1 = 952ull;
+              w2c_j1 = 888ull;
               w2c_j0 += w2c_j1;
               w2c_j1 = w2c_l3;
               w2c_j2 = 584ull;
@@ -16107,8 +16091,8 @@ static void w2c_f9(Z_dine_ffi_instance_t* instance, u64 w2c_p0, u64 w2c_p1, u64 
                 w2c_i0 = w2c_l41;
                 w2c_i1 = 1u;
                 w2c_i0 -= w2c_i1;
-                if (w2c_i0) {goto w2c_B503;}
-                goto w2c_B501;
+                if (w2c_i0) {goto w2c_B508;}
+                goto w2c_B506;
               }
               w2c_j0 = w2c_l4;
               w2c_j1 = 24ull;
@@ -16124,10 +16108,10 @@ static void w2c_f9(Z_dine_ffi_instance_t* instance, u64 w2c_p0, u64 w2c_p1, u64 
               w2c_j1 += w2c_j2;
               w2c_p1 = w2c_j1;
               w2c_i0 = w2c_j0 != w2c_j1;
-              if (w2c_i0) {goto w2c_L504;}
+              if (w2c_i0) {goto w2c_L509;}
             w2c_j0 = w2c_p2;
             w2c_p1 = w2c_j0;
-            w2c_B503:;
+            w2c_B508:;
             w2c_j0 = w2c_p1;
             w2c_j1 = 3ull;
             w2c_j0 <<= (w2c_j1 & 63);
@@ -16147,14 +16131,14 @@ static void w2c_f9(Z_dine_ffi_instance_t* instance, u64 w2c_p0, u64 w2c_p1, u64 
             w2c_i0 = (u32)(w2c_j0);
             w2c_j0 = i64_load(&instance->w2c_memory, (u64)(w2c_i0));
             w2c_l6 = w2c_j0;
-            goto w2c_L500;
+            goto w2c_L505;
           } else {
             w2c_i0 = w2c_l53;
             w2c_l41 = w2c_i0;
-            goto w2c_B474;
+            goto w2c_B479;
           }
           UNREACHABLE;
-          w2c_B501:;
+          w2c_B506:;
         w2c_j0 = w2c_l5;
         w2c_j1 = 8ull;
         w2c_j0 -= w2c_j1;
@@ -16177,10 +16161,10 @@ static void w2c_f9(Z_dine_ffi_instance_t* instance, u64 w2c_p0, u64 w2c_p1, u64 
           w2c_l9 = w2c_j0;
           w2c_i0 = w2c_l53;
           w2c_i0 = !(w2c_i0);
-          if (w2c_i0) {goto w2c_B509;}
+          if (w2c_i0) {goto w2c_B514;}
           w2c_i0 = 1u;
           w2c_l41 = w2c_i0;
-          goto w2c_B507;
+          goto w2c_B512;
         }
         w2c_j0 = 0ull;
         w2c_l9 = w2c_j0;
@@ -16188,22 +16172,22 @@ static void w2c_f9(Z_dine_ffi_instance_t* instance, u64 w2c_p0, u64 w2c_p1, u64 
         w2c_l41 = w2c_i0;
         w2c_i1 = w2c_l53;
         w2c_i1 = !(w2c_i1);
-        if (w2c_i1) {goto w2c_B508;}
-        goto w2c_B507;
-        w2c_B509:;
+        if (w2c_i1) {goto w2c_B513;}
+        goto w2c_B512;
+        w2c_B514:;
         w2c_j0 = w2c_l4;
         w2c_j1 = 0ull;
         w2c_i0 = (u64)((s64)w2c_j0 >= (s64)w2c_j1);
-        w2c_B508:;
+        w2c_B513:;
         w2c_i1 = 1u;
         w2c_i0 ^= w2c_i1;
         w2c_i1 = w2c_l69;
         w2c_i0 |= w2c_i1;
         w2c_l41 = w2c_i0;
-        w2c_B507:;
+        w2c_B512:;
         w2c_j0 = 1ull;
         w2c_l11 = w2c_j0;
-        w2c_B474:;
+        w2c_B479:;
         w2c_j0 = w2c_l3;
         w2c_i0 = (u32)(w2c_j0);
         w2c_j1 = 0ull;
@@ -16239,27 +16223,27 @@ static void w2c_f9(Z_dine_ffi_instance_t* instance, u64 w2c_p0, u64 w2c_p1, u64 
         w2c_j0 = w2c_l3;
         w2c_i0 = (u32)(w2c_j0);
         w2c_j1 = 0ull;
-        i64_store(&instance->w2c_memory, (u64)(w2c_i0) + 952, w2c_j1);
+        i64_store(&instance->w2c_memory, (u64)(w2c_i0) + 888, w2c_j1);
         w2c_j0 = w2c_l3;
         w2c_i0 = (u32)(w2c_j0);
         w2c_j1 = 0ull;
-        i64_store(&instance->w2c_memory, (u64)(w2c_i0) + 960, w2c_j1);
+        i64_store(&instance->w2c_memory, (u64)(w2c_i0) + 896, w2c_j1);
         w2c_j0 = w2c_l3;
         w2c_i0 = (u32)(w2c_j0);
         w2c_j1 = 0ull;
-        i64_store(&instance->w2c_memory, (u64)(w2c_i0) + 968, w2c_j1);
+        i64_store(&instance->w2c_memory, (u64)(w2c_i0) + 904, w2c_j1);
         w2c_j0 = w2c_l3;
         w2c_i0 = (u32)(w2c_j0);
         w2c_j1 = 0ull;
-        i64_store(&instance->w2c_memory, (u64)(w2c_i0) + 976, w2c_j1);
+        i64_store(&instance->w2c_memory, (u64)(w2c_i0) + 912, w2c_j1);
         w2c_j0 = w2c_l3;
         w2c_i0 = (u32)(w2c_j0);
         w2c_j1 = 0ull;
-        i64_store(&instance->w2c_memory, (u64)(w2c_i0) + 984, w2c_j1);
+        i64_store(&instance->w2c_memory, (u64)(w2c_i0) + 920, w2c_j1);
         w2c_j0 = w2c_l3;
         w2c_i0 = (u32)(w2c_j0);
         w2c_j1 = 0ull;
-        i64_store(&instance->w2c_memory, (u64)(w2c_i0) + 992, w2c_j1);
+        i64_store(&instance->w2c_memory, (u64)(w2c_i0) + 928, w2c_j1);
         w2c_j0 = w2c_l3;
         w2c_i0 = (u32)(w2c_j0);
         w2c_i1 = w2c_l57;
@@ -16293,7 +16277,7 @@ static void w2c_f9(Z_dine_ffi_instance_t* instance, u64 w2c_p0, u64 w2c_p1, u64 
         w2c_j1 = i64_load(&instance->w2c_memory, (u64)(w2c_i1));
         i64_store(&instance->w2c_memory, (u64)(w2c_i0), w2c_j1);
         w2c_j0 = w2c_l3;
-        w2c_j1 = 952ull;
+        w2c_j1 = 888ull;
         w2c_j0 += w2c_j1;
         w2c_j1 = w2c_l3;
         w2c_j2 = 520ull;
@@ -16301,50 +16285,50 @@ static void w2c_f9(Z_dine_ffi_instance_t* instance, u64 w2c_p0, u64 w2c_p1, u64 
         w2c_j2 = 1059801ull;
         w2c_f31(instance, w2c_j0, w2c_j1, w2c_j2);
         w2c_j0 = w2c_l3;
-        w2c_j1 = 1384ull;
+        w2c_j1 = 1320ull;
         w2c_j0 += w2c_j1;
         w2c_l8 = w2c_j0;
         w2c_j0 = w2c_l3;
         w2c_i0 = (u32)(w2c_j0);
-        w2c_i0 = i32_load8_u(&instance->w2c_memory, (u64)(w2c_i0) + 952u);
+        w2c_i0 = i32_load8_u(&instance->w2c_memory, (u64)(w2c_i0) + 888u);
         w2c_i1 = 1u;
         w2c_i0 = w2c_i0 != w2c_i1;
-        if (w2c_i0) {goto w2c_B512;}
+        if (w2c_i0) {goto w2c_B517;}
         w2c_j0 = w2c_l3;
         w2c_i0 = (u32)(w2c_j0);
-        w2c_j0 = i64_load(&instance->w2c_memory, (u64)(w2c_i0) + 984u);
+        w2c_j0 = i64_load(&instance->w2c_memory, (u64)(w2c_i0) + 920u);
         w2c_l7 = w2c_j0;
         w2c_j0 = w2c_l3;
         w2c_i0 = (u32)(w2c_j0);
-        w2c_j0 = i64_load(&instance->w2c_memory, (u64)(w2c_i0) + 976u);
+        w2c_j0 = i64_load(&instance->w2c_memory, (u64)(w2c_i0) + 912u);
         w2c_p1 = w2c_j0;
         w2c_j0 = w2c_l3;
         w2c_i0 = (u32)(w2c_j0);
-        w2c_j0 = i64_load(&instance->w2c_memory, (u64)(w2c_i0) + 968u);
+        w2c_j0 = i64_load(&instance->w2c_memory, (u64)(w2c_i0) + 904u);
         w2c_l5 = w2c_j0;
         w2c_j0 = w2c_l3;
         w2c_i0 = (u32)(w2c_j0);
-        w2c_j0 = i64_load8_u(&instance->w2c_memory, (u64)(w2c_i0) + 960u);
+        w2c_j0 = i64_load8_u(&instance->w2c_memory, (u64)(w2c_i0) + 896u);
         w2c_i0 = (u32)(w2c_j0);
         w2c_i1 = 1u;
         w2c_i0 -= w2c_i1;
         switch (w2c_i0) {
-          case 0: goto w2c_B513;
-          case 1: goto w2c_B513;
-          case 2: goto w2c_B513;
-          case 3: goto w2c_B513;
-          case 4: goto w2c_B515;
-          case 5: goto w2c_B514;
-          default: goto w2c_B511;
+          case 0: goto w2c_B518;
+          case 1: goto w2c_B518;
+          case 2: goto w2c_B518;
+          case 3: goto w2c_B518;
+          case 4: goto w2c_B520;
+          case 5: goto w2c_B519;
+          default: goto w2c_B516;
         }
-        w2c_B515:;
+        w2c_B520:;
         w2c_j0 = w2c_p1;
         w2c_i0 = !(w2c_j0);
         w2c_i0 = !(w2c_i0);
         if (w2c_i0) {
           w2c_j0 = w2c_l5;
           w2c_l4 = w2c_j0;
-          w2c_L517: 
+          w2c_L522: 
             w2c_j0 = w2c_l4;
             w2c_i0 = (u32)(w2c_j0);
             w2c_i0 = i32_load16_u(&instance->w2c_memory, (u64)(w2c_i0));
@@ -16419,17 +16403,17 @@ static void w2c_f9(Z_dine_ffi_instance_t* instance, u64 w2c_p0, u64 w2c_p1, u64 
             w2c_p1 = w2c_j0;
             w2c_j1 = 0ull;
             w2c_i0 = w2c_j0 != w2c_j1;
-            if (w2c_i0) {goto w2c_L517;}
+            if (w2c_i0) {goto w2c_L522;}
         }
         w2c_i0 = 1u;
         w2c_l43 = w2c_i0;
         w2c_j0 = w2c_l7;
         w2c_i0 = !(w2c_j0);
-        if (w2c_i0) {goto w2c_B512;}
+        if (w2c_i0) {goto w2c_B517;}
         w2c_j0 = w2c_l5;
         w2c_leave(instance, w2c_j0);
-        goto w2c_B512;
-        w2c_B514:;
+        goto w2c_B517;
+        w2c_B519:;
         w2c_i0 = 1u;
         w2c_l43 = w2c_i0;
         w2c_j0 = w2c_l5;
@@ -16437,21 +16421,21 @@ static void w2c_f9(Z_dine_ffi_instance_t* instance, u64 w2c_p0, u64 w2c_p1, u64 
         w2c_j0 &= w2c_j1;
         w2c_j1 = 1ull;
         w2c_i0 = w2c_j0 != w2c_j1;
-        if (w2c_i0) {goto w2c_B512;}
+        if (w2c_i0) {goto w2c_B517;}
         w2c_j0 = w2c_p1;
         w2c_f22(instance, w2c_j0);
-        goto w2c_B512;
-        w2c_B513:;
+        goto w2c_B517;
+        w2c_B518:;
         w2c_i0 = 1u;
         w2c_l43 = w2c_i0;
-        w2c_B512:;
+        w2c_B517:;
         w2c_j0 = w2c_l8;
         w2c_l5 = w2c_j0;
         w2c_j0 = 0ull;
         w2c_p1 = w2c_j0;
         w2c_j0 = 0ull;
         w2c_l7 = w2c_j0;
-        w2c_B511:;
+        w2c_B516:;
         w2c_j0 = w2c_l13;
         w2c_j1 = 1ull;
         w2c_j0 -= w2c_j1;
@@ -16463,30 +16447,30 @@ static void w2c_f9(Z_dine_ffi_instance_t* instance, u64 w2c_p0, u64 w2c_p1, u64 
         w2c_j0 = w2c_l3;
         w2c_i0 = (u32)(w2c_j0);
         w2c_i1 = 0u;
-        i32_store8(&instance->w2c_memory, (u64)(w2c_i0) + 954, w2c_i1);
+        i32_store8(&instance->w2c_memory, (u64)(w2c_i0) + 890, w2c_i1);
         w2c_j0 = w2c_l3;
         w2c_i0 = (u32)(w2c_j0);
         w2c_i1 = 0u;
-        i32_store16(&instance->w2c_memory, (u64)(w2c_i0) + 952, w2c_i1);
+        i32_store16(&instance->w2c_memory, (u64)(w2c_i0) + 888, w2c_i1);
         w2c_j0 = w2c_l14;
         w2c_j1 = w2c_l3;
         w2c_i1 = (u32)(w2c_j1);
-        w2c_j1 = i64_load(&instance->w2c_memory, (u64)(w2c_i1) + 1376u);
+        w2c_j1 = i64_load(&instance->w2c_memory, (u64)(w2c_i1) + 1312u);
         w2c_i0 = w2c_j0 == w2c_j1;
         if (w2c_i0) {
           w2c_j0 = w2c_l3;
-          w2c_j1 = 1360ull;
+          w2c_j1 = 1296ull;
           w2c_j0 += w2c_j1;
           w2c_i0 = w2c_f33(instance, w2c_j0);
           w2c_i0 = !(w2c_i0);
-          if (w2c_i0) {goto w2c_B470;}
+          if (w2c_i0) {goto w2c_B475;}
           w2c_j0 = w2c_l3;
           w2c_i0 = (u32)(w2c_j0);
-          w2c_j0 = i64_load(&instance->w2c_memory, (u64)(w2c_i0) + 1360u);
+          w2c_j0 = i64_load(&instance->w2c_memory, (u64)(w2c_i0) + 1296u);
           w2c_l28 = w2c_j0;
           w2c_j0 = w2c_l3;
           w2c_i0 = (u32)(w2c_j0);
-          w2c_j0 = i64_load(&instance->w2c_memory, (u64)(w2c_i0) + 1368u);
+          w2c_j0 = i64_load(&instance->w2c_memory, (u64)(w2c_i0) + 1304u);
           w2c_l14 = w2c_j0;
         }
         w2c_j0 = w2c_l28;
@@ -16530,13 +16514,13 @@ static void w2c_f9(Z_dine_ffi_instance_t* instance, u64 w2c_p0, u64 w2c_p1, u64 
         w2c_i0 = (u32)(w2c_j0);
         w2c_j1 = w2c_l3;
         w2c_i1 = (u32)(w2c_j1);
-        w2c_i1 = i32_load16_u(&instance->w2c_memory, (u64)(w2c_i1) + 952u);
+        w2c_i1 = i32_load16_u(&instance->w2c_memory, (u64)(w2c_i1) + 888u);
         i32_store16(&instance->w2c_memory, (u64)(w2c_i0) + 37, w2c_i1);
         w2c_j0 = w2c_l4;
         w2c_i0 = (u32)(w2c_j0);
         w2c_j1 = w2c_l3;
         w2c_i1 = (u32)(w2c_j1);
-        w2c_i1 = i32_load8_u(&instance->w2c_memory, (u64)(w2c_i1) + 954u);
+        w2c_i1 = i32_load8_u(&instance->w2c_memory, (u64)(w2c_i1) + 890u);
         i32_store8(&instance->w2c_memory, (u64)(w2c_i0) + 39, w2c_i1);
         w2c_j0 = w2c_l3;
         w2c_i0 = (u32)(w2c_j0);
@@ -16544,7 +16528,7 @@ static void w2c_f9(Z_dine_ffi_instance_t* instance, u64 w2c_p0, u64 w2c_p1, u64 
         w2c_j2 = 1ull;
         w2c_j1 += w2c_j2;
         w2c_l14 = w2c_j1;
-        i64_store(&instance->w2c_memory, (u64)(w2c_i0) + 1368, w2c_j1);
+        i64_store(&instance->w2c_memory, (u64)(w2c_i0) + 1304, w2c_j1);
         w2c_i0 = w2c_l50;
         w2c_i1 = w2c_l41;
         w2c_i2 = w2c_l43;
@@ -16556,52 +16540,52 @@ static void w2c_f9(Z_dine_ffi_instance_t* instance, u64 w2c_p0, u64 w2c_p1, u64 
         w2c_j0 = w2c_l13;
         w2c_i0 = !(w2c_j0);
         w2c_i0 = !(w2c_i0);
-        if (w2c_i0) {goto w2c_L473;}
+        if (w2c_i0) {goto w2c_L478;}
       w2c_j0 = w2c_l3;
       w2c_i0 = (u32)(w2c_j0);
-      w2c_j0 = i64_load(&instance->w2c_memory, (u64)(w2c_i0) + 1200u);
+      w2c_j0 = i64_load(&instance->w2c_memory, (u64)(w2c_i0) + 1136u);
       w2c_l12 = w2c_j0;
       w2c_j0 = w2c_l3;
       w2c_i0 = (u32)(w2c_j0);
-      w2c_j0 = i64_load(&instance->w2c_memory, (u64)(w2c_i0) + 1376u);
+      w2c_j0 = i64_load(&instance->w2c_memory, (u64)(w2c_i0) + 1312u);
       w2c_p1 = w2c_j0;
       w2c_j0 = w2c_l3;
       w2c_i0 = (u32)(w2c_j0);
-      w2c_j0 = i64_load(&instance->w2c_memory, (u64)(w2c_i0) + 1360u);
-      w2c_B471:;
+      w2c_j0 = i64_load(&instance->w2c_memory, (u64)(w2c_i0) + 1296u);
+      w2c_B476:;
       w2c_l5 = w2c_j0;
       w2c_j0 = w2c_l3;
       w2c_i0 = (u32)(w2c_j0);
       w2c_j1 = 0ull;
-      i64_store(&instance->w2c_memory, (u64)(w2c_i0) + 1312, w2c_j1);
+      i64_store(&instance->w2c_memory, (u64)(w2c_i0) + 1248, w2c_j1);
       w2c_j0 = w2c_l3;
       w2c_i0 = (u32)(w2c_j0);
       w2c_j1 = w2c_l21;
-      i64_store(&instance->w2c_memory, (u64)(w2c_i0) + 1304, w2c_j1);
+      i64_store(&instance->w2c_memory, (u64)(w2c_i0) + 1240, w2c_j1);
       w2c_j0 = w2c_l3;
       w2c_i0 = (u32)(w2c_j0);
       w2c_j1 = w2c_l36;
-      i64_store(&instance->w2c_memory, (u64)(w2c_i0) + 1296, w2c_j1);
+      i64_store(&instance->w2c_memory, (u64)(w2c_i0) + 1232, w2c_j1);
       w2c_j0 = w2c_l3;
       w2c_i0 = (u32)(w2c_j0);
       w2c_j1 = 0ull;
-      i64_store(&instance->w2c_memory, (u64)(w2c_i0) + 1288, w2c_j1);
+      i64_store(&instance->w2c_memory, (u64)(w2c_i0) + 1224, w2c_j1);
       w2c_j0 = w2c_l3;
       w2c_i0 = (u32)(w2c_j0);
       w2c_j1 = w2c_l29;
-      i64_store(&instance->w2c_memory, (u64)(w2c_i0) + 1280, w2c_j1);
+      i64_store(&instance->w2c_memory, (u64)(w2c_i0) + 1216, w2c_j1);
       w2c_j0 = w2c_l3;
-      w2c_j1 = 1280ull;
+      w2c_j1 = 1216ull;
       w2c_j0 += w2c_j1;
       w2c_f34(instance, w2c_j0);
       w2c_j0 = w2c_l3;
       w2c_i0 = (u32)(w2c_j0);
-      w2c_j0 = i64_load(&instance->w2c_memory, (u64)(w2c_i0) + 1208u);
+      w2c_j0 = i64_load(&instance->w2c_memory, (u64)(w2c_i0) + 1144u);
       w2c_j1 = w2c_l12;
       w2c_i0 = w2c_j0 == w2c_j1;
-      if (w2c_i0) {goto w2c_B469;}
-      goto w2c_B468;
-      w2c_B470:;
+      if (w2c_i0) {goto w2c_B474;}
+      goto w2c_B473;
+      w2c_B475:;
       w2c_j0 = w2c_l7;
       w2c_i0 = !(w2c_j0);
       w2c_i0 = !(w2c_i0);
@@ -16612,103 +16596,43 @@ static void w2c_f9(Z_dine_ffi_instance_t* instance, u64 w2c_p0, u64 w2c_p1, u64 
       w2c_j0 = w2c_l3;
       w2c_i0 = (u32)(w2c_j0);
       w2c_j1 = 0ull;
-      i64_store(&instance->w2c_memory, (u64)(w2c_i0) + 1352, w2c_j1);
+      i64_store(&instance->w2c_memory, (u64)(w2c_i0) + 1288, w2c_j1);
       w2c_j0 = w2c_l3;
       w2c_i0 = (u32)(w2c_j0);
       w2c_j1 = w2c_l17;
-      i64_store(&instance->w2c_memory, (u64)(w2c_i0) + 1344, w2c_j1);
+      i64_store(&instance->w2c_memory, (u64)(w2c_i0) + 1280, w2c_j1);
       w2c_j0 = w2c_l3;
       w2c_i0 = (u32)(w2c_j0);
       w2c_j1 = w2c_l36;
-      i64_store(&instance->w2c_memory, (u64)(w2c_i0) + 1336, w2c_j1);
+      i64_store(&instance->w2c_memory, (u64)(w2c_i0) + 1272, w2c_j1);
       w2c_j0 = w2c_l3;
       w2c_i0 = (u32)(w2c_j0);
       w2c_j1 = w2c_l13;
-      i64_store(&instance->w2c_memory, (u64)(w2c_i0) + 1328, w2c_j1);
+      i64_store(&instance->w2c_memory, (u64)(w2c_i0) + 1264, w2c_j1);
       w2c_j0 = w2c_l3;
       w2c_i0 = (u32)(w2c_j0);
       w2c_j1 = w2c_l29;
-      i64_store(&instance->w2c_memory, (u64)(w2c_i0) + 1320, w2c_j1);
+      i64_store(&instance->w2c_memory, (u64)(w2c_i0) + 1256, w2c_j1);
       w2c_j0 = w2c_l3;
-      w2c_j1 = 1320ull;
+      w2c_j1 = 1256ull;
       w2c_j0 += w2c_j1;
       w2c_f34(instance, w2c_j0);
       w2c_j0 = w2c_l3;
       w2c_i0 = (u32)(w2c_j0);
-      w2c_j0 = i64_load(&instance->w2c_memory, (u64)(w2c_i0) + 1376u);
+      w2c_j0 = i64_load(&instance->w2c_memory, (u64)(w2c_i0) + 1312u);
       w2c_l5 = w2c_j0;
       w2c_j0 = w2c_l3;
       w2c_i0 = (u32)(w2c_j0);
-      w2c_j0 = i64_load(&instance->w2c_memory, (u64)(w2c_i0) + 1360u);
+      w2c_j0 = i64_load(&instance->w2c_memory, (u64)(w2c_i0) + 1296u);
       w2c_l29 = w2c_j0;
       w2c_j0 = w2c_l3;
       w2c_i0 = (u32)(w2c_j0);
-      w2c_j0 = i64_load(&instance->w2c_memory, (u64)(w2c_i0) + 1368u);
+      w2c_j0 = i64_load(&instance->w2c_memory, (u64)(w2c_i0) + 1304u);
       w2c_p1 = w2c_j0;
       w2c_i0 = !(w2c_j0);
       w2c_i0 = !(w2c_i0);
       if (w2c_i0) {
         w2c_j0 = w2c_l29;
-        w2c_l4 = w2c_j0;
-        w2c_L521: 
-          w2c_j0 = w2c_l4;
-          w2c_i0 = (u32)(w2c_j0);
-          w2c_i0 = i32_load8_u(&instance->w2c_memory, (u64)(w2c_i0));
-          if (w2c_i0) {goto w2c_B522;}
-          w2c_j0 = w2c_l4;
-          w2c_j1 = 24ull;
-          w2c_j0 += w2c_j1;
-          w2c_i0 = (u32)(w2c_j0);
-          w2c_j0 = i64_load(&instance->w2c_memory, (u64)(w2c_i0));
-          w2c_i0 = !(w2c_j0);
-          if (w2c_i0) {goto w2c_B522;}
-          w2c_j0 = w2c_l4;
-          w2c_j1 = 8ull;
-          w2c_j0 += w2c_j1;
-          w2c_i0 = (u32)(w2c_j0);
-          w2c_j0 = i64_load(&instance->w2c_memory, (u64)(w2c_i0));
-          w2c_leave(instance, w2c_j0);
-          w2c_B522:;
-          w2c_j0 = w2c_l4;
-          w2c_j1 = 56ull;
-          w2c_j0 += w2c_j1;
-          w2c_l4 = w2c_j0;
-          w2c_j0 = w2c_p1;
-          w2c_j1 = 1ull;
-          w2c_j0 -= w2c_j1;
-          w2c_p1 = w2c_j0;
-          w2c_j1 = 0ull;
-          w2c_i0 = w2c_j0 != w2c_j1;
-          if (w2c_i0) {goto w2c_L521;}
-      }
-      w2c_j0 = w2c_l5;
-      w2c_i0 = !(w2c_j0);
-      if (w2c_i0) {goto w2c_B361;}
-      goto w2c_B362;
-      w2c_B469:;
-      w2c_j0 = w2c_l3;
-      w2c_j1 = 1192ull;
-      w2c_j0 += w2c_j1;
-      w2c_i0 = w2c_f33(instance, w2c_j0);
-      if (w2c_i0) {
-        w2c_j0 = w2c_l3;
-        w2c_i0 = (u32)(w2c_j0);
-        w2c_j0 = i64_load(&instance->w2c_memory, (u64)(w2c_i0) + 1200u);
-        w2c_l12 = w2c_j0;
-        goto w2c_B468;
-      }
-      w2c_j0 = w2c_l15;
-      w2c_i0 = !(w2c_j0);
-      w2c_i0 = !(w2c_i0);
-      if (w2c_i0) {
-        w2c_j0 = w2c_l22;
-        w2c_leave(instance, w2c_j0);
-      }
-      w2c_j0 = w2c_l14;
-      w2c_i0 = !(w2c_j0);
-      w2c_i0 = !(w2c_i0);
-      if (w2c_i0) {
-        w2c_j0 = w2c_l5;
         w2c_l4 = w2c_j0;
         w2c_L526: 
           w2c_j0 = w2c_l4;
@@ -16733,25 +16657,85 @@ static void w2c_f9(Z_dine_ffi_instance_t* instance, u64 w2c_p0, u64 w2c_p1, u64 
           w2c_j1 = 56ull;
           w2c_j0 += w2c_j1;
           w2c_l4 = w2c_j0;
+          w2c_j0 = w2c_p1;
+          w2c_j1 = 1ull;
+          w2c_j0 -= w2c_j1;
+          w2c_p1 = w2c_j0;
+          w2c_j1 = 0ull;
+          w2c_i0 = w2c_j0 != w2c_j1;
+          if (w2c_i0) {goto w2c_L526;}
+      }
+      w2c_j0 = w2c_l5;
+      w2c_i0 = !(w2c_j0);
+      if (w2c_i0) {goto w2c_B366;}
+      goto w2c_B367;
+      w2c_B474:;
+      w2c_j0 = w2c_l3;
+      w2c_j1 = 1128ull;
+      w2c_j0 += w2c_j1;
+      w2c_i0 = w2c_f33(instance, w2c_j0);
+      if (w2c_i0) {
+        w2c_j0 = w2c_l3;
+        w2c_i0 = (u32)(w2c_j0);
+        w2c_j0 = i64_load(&instance->w2c_memory, (u64)(w2c_i0) + 1136u);
+        w2c_l12 = w2c_j0;
+        goto w2c_B473;
+      }
+      w2c_j0 = w2c_l15;
+      w2c_i0 = !(w2c_j0);
+      w2c_i0 = !(w2c_i0);
+      if (w2c_i0) {
+        w2c_j0 = w2c_l22;
+        w2c_leave(instance, w2c_j0);
+      }
+      w2c_j0 = w2c_l14;
+      w2c_i0 = !(w2c_j0);
+      w2c_i0 = !(w2c_i0);
+      if (w2c_i0) {
+        w2c_j0 = w2c_l5;
+        w2c_l4 = w2c_j0;
+        w2c_L531: 
+          w2c_j0 = w2c_l4;
+          w2c_i0 = (u32)(w2c_j0);
+          w2c_i0 = i32_load8_u(&instance->w2c_memory, (u64)(w2c_i0));
+          if (w2c_i0) {goto w2c_B532;}
+          w2c_j0 = w2c_l4;
+          w2c_j1 = 24ull;
+          w2c_j0 += w2c_j1;
+          w2c_i0 = (u32)(w2c_j0);
+          w2c_j0 = i64_load(&instance->w2c_memory, (u64)(w2c_i0));
+          w2c_i0 = !(w2c_j0);
+          if (w2c_i0) {goto w2c_B532;}
+          w2c_j0 = w2c_l4;
+          w2c_j1 = 8ull;
+          w2c_j0 += w2c_j1;
+          w2c_i0 = (u32)(w2c_j0);
+          w2c_j0 = i64_load(&instance->w2c_memory, (u64)(w2c_i0));
+          w2c_leave(instance, w2c_j0);
+          w2c_B532:;
+          w2c_j0 = w2c_l4;
+          w2c_j1 = 56ull;
+          w2c_j0 += w2c_j1;
+          w2c_l4 = w2c_j0;
           w2c_j0 = w2c_l14;
           w2c_j1 = 1ull;
           w2c_j0 -= w2c_j1;
           w2c_l14 = w2c_j0;
           w2c_j1 = 0ull;
           w2c_i0 = w2c_j0 != w2c_j1;
-          if (w2c_i0) {goto w2c_L526;}
+          if (w2c_i0) {goto w2c_L531;}
       }
       w2c_j0 = w2c_l3;
-      w2c_j1 = 1072ull;
+      w2c_j1 = 1008ull;
       w2c_j0 += w2c_j1;
       w2c_l4 = w2c_j0;
       w2c_j0 = w2c_p1;
       w2c_i0 = !(w2c_j0);
-      if (w2c_i0) {goto w2c_B359;}
+      if (w2c_i0) {goto w2c_B364;}
       w2c_j0 = w2c_l5;
       w2c_leave(instance, w2c_j0);
-      goto w2c_B359;
-      w2c_B468:;
+      goto w2c_B364;
+      w2c_B473:;
       w2c_j0 = w2c_l35;
       w2c_j1 = w2c_l26;
       w2c_i2 = w2c_l48;
@@ -16761,19 +16745,23 @@ static void w2c_f9(Z_dine_ffi_instance_t* instance, u64 w2c_p0, u64 w2c_p1, u64 
       w2c_l35 = w2c_j0;
       w2c_j0 = w2c_l3;
       w2c_i0 = (u32)(w2c_j0);
-      w2c_j0 = i64_load(&instance->w2c_memory, (u64)(w2c_i0) + 1192u);
+      w2c_j0 = i64_load(&instance->w2c_memory, (u64)(w2c_i0) + 1128u);
       w2c_j1 = w2c_l12;
       w2c_j2 = 56ull;
       w2c_j1 *= w2c_j2;
       w2c_j0 += w2c_j1;
       w2c_l4 = w2c_j0;
       w2c_i0 = (u32)(w2c_j0);
-      w2c_j1 = 0ull;
-      i64_store32(&instance->w2c_memory, (u64)(w2c_i0) + 49, w2c_j1);
+      w2c_i1 = 0u;
+      i32_store16(&instance->w2c_memory, (u64)(w2c_i0) + 53, w2c_i1);
       w2c_j0 = w2c_l4;
       w2c_i0 = (u32)(w2c_j0);
       w2c_i1 = w2c_l67;
-      i32_store8(&instance->w2c_memory, (u64)(w2c_i0) + 48, w2c_i1);
+      i32_store8(&instance->w2c_memory, (u64)(w2c_i0) + 52, w2c_i1);
+      w2c_j0 = w2c_l4;
+      w2c_i0 = (u32)(w2c_j0);
+      w2c_i1 = 0u;
+      i32_store(&instance->w2c_memory, (u64)(w2c_i0) + 48, w2c_i1);
       w2c_j0 = w2c_l4;
       w2c_i0 = (u32)(w2c_j0);
       w2c_j1 = w2c_p1;
@@ -16802,21 +16790,15 @@ static void w2c_f9(Z_dine_ffi_instance_t* instance, u64 w2c_p0, u64 w2c_p1, u64 
       w2c_j1 = 55ull;
       w2c_j0 += w2c_j1;
       w2c_i0 = (u32)(w2c_j0);
-      w2c_j1 = 0ull;
-      i64_store8(&instance->w2c_memory, (u64)(w2c_i0), w2c_j1);
-      w2c_j0 = w2c_l4;
-      w2c_j1 = 53ull;
-      w2c_j0 += w2c_j1;
-      w2c_i0 = (u32)(w2c_j0);
-      w2c_j1 = 0ull;
-      i64_store16(&instance->w2c_memory, (u64)(w2c_i0), w2c_j1);
+      w2c_i1 = 0u;
+      i32_store8(&instance->w2c_memory, (u64)(w2c_i0), w2c_i1);
       w2c_j0 = w2c_l3;
       w2c_i0 = (u32)(w2c_j0);
       w2c_j1 = w2c_l12;
       w2c_j2 = 1ull;
       w2c_j1 += w2c_j2;
       w2c_l12 = w2c_j1;
-      i64_store(&instance->w2c_memory, (u64)(w2c_i0) + 1200, w2c_j1);
+      i64_store(&instance->w2c_memory, (u64)(w2c_i0) + 1136, w2c_j1);
       w2c_i0 = w2c_l63;
       w2c_i1 = w2c_l49;
       w2c_i2 = w2c_l50;
@@ -16838,7 +16820,7 @@ static void w2c_f9(Z_dine_ffi_instance_t* instance, u64 w2c_p0, u64 w2c_p1, u64 
       w2c_j0 = w2c_l31;
       w2c_i0 = !(w2c_j0);
       w2c_i0 = !(w2c_i0);
-      if (w2c_i0) {goto w2c_L365;}
+      if (w2c_i0) {goto w2c_L370;}
     w2c_i0 = w2c_l46;
     w2c_i1 = w2c_l63;
     w2c_i0 |= w2c_i1;
@@ -16862,84 +16844,60 @@ static void w2c_f9(Z_dine_ffi_instance_t* instance, u64 w2c_p0, u64 w2c_p1, u64 
   w2c_j0 = w2c_l3;
   w2c_i0 = (u32)(w2c_j0);
   w2c_j1 = 0ull;
-  i64_store(&instance->w2c_memory, (u64)(w2c_i0) + 1064, w2c_j1);
+  i64_store(&instance->w2c_memory, (u64)(w2c_i0) + 1000, w2c_j1);
   w2c_j0 = w2c_l3;
   w2c_i0 = (u32)(w2c_j0);
   w2c_j1 = w2c_l39;
-  i64_store(&instance->w2c_memory, (u64)(w2c_i0) + 1056, w2c_j1);
+  i64_store(&instance->w2c_memory, (u64)(w2c_i0) + 992, w2c_j1);
   w2c_j0 = w2c_l3;
   w2c_i0 = (u32)(w2c_j0);
   w2c_j1 = w2c_l40;
-  i64_store(&instance->w2c_memory, (u64)(w2c_i0) + 1048, w2c_j1);
+  i64_store(&instance->w2c_memory, (u64)(w2c_i0) + 984, w2c_j1);
   w2c_j0 = w2c_l3;
   w2c_i0 = (u32)(w2c_j0);
   w2c_j1 = 0ull;
-  i64_store(&instance->w2c_memory, (u64)(w2c_i0) + 1040, w2c_j1);
+  i64_store(&instance->w2c_memory, (u64)(w2c_i0) + 976, w2c_j1);
   w2c_j0 = w2c_l3;
   w2c_i0 = (u32)(w2c_j0);
   w2c_j1 = w2c_l34;
-  i64_store(&instance->w2c_memory, (u64)(w2c_i0) + 1032, w2c_j1);
+  i64_store(&instance->w2c_memory, (u64)(w2c_i0) + 968, w2c_j1);
   w2c_j0 = w2c_l3;
-  w2c_j1 = 1032ull;
+  w2c_j1 = 968ull;
   w2c_j0 += w2c_j1;
   w2c_f34(instance, w2c_j0);
   w2c_j0 = w2c_l3;
   w2c_i0 = (u32)(w2c_j0);
   w2c_j1 = w2c_l3;
   w2c_i1 = (u32)(w2c_j1);
-  w2c_j1 = i64_load(&instance->w2c_memory, (u64)(w2c_i1) + 1192u);
+  w2c_j1 = i64_load(&instance->w2c_memory, (u64)(w2c_i1) + 1144u);
   w2c_l4 = w2c_j1;
-  i64_store(&instance->w2c_memory, (u64)(w2c_i0) + 924, w2c_j1);
+  i64_store(&instance->w2c_memory, (u64)(w2c_i0) + 879, w2c_j1);
   w2c_j0 = w2c_l3;
   w2c_i0 = (u32)(w2c_j0);
   w2c_j1 = w2c_l3;
   w2c_i1 = (u32)(w2c_j1);
-  w2c_j1 = i64_load(&instance->w2c_memory, (u64)(w2c_i1) + 1200u);
+  w2c_j1 = i64_load(&instance->w2c_memory, (u64)(w2c_i1) + 1136u);
   w2c_p1 = w2c_j1;
-  i64_store(&instance->w2c_memory, (u64)(w2c_i0) + 932, w2c_j1);
+  i64_store(&instance->w2c_memory, (u64)(w2c_i0) + 871, w2c_j1);
   w2c_j0 = w2c_l3;
   w2c_i0 = (u32)(w2c_j0);
   w2c_j1 = w2c_l3;
   w2c_i1 = (u32)(w2c_j1);
-  w2c_j1 = i64_load(&instance->w2c_memory, (u64)(w2c_i1) + 1208u);
+  w2c_j1 = i64_load(&instance->w2c_memory, (u64)(w2c_i1) + 1128u);
   w2c_l5 = w2c_j1;
-  i64_store(&instance->w2c_memory, (u64)(w2c_i0) + 940, w2c_j1);
+  i64_store(&instance->w2c_memory, (u64)(w2c_i0) + 863, w2c_j1);
   w2c_j0 = w2c_l3;
   w2c_i0 = (u32)(w2c_j0);
   w2c_j1 = w2c_l5;
-  i64_store(&instance->w2c_memory, (u64)(w2c_i0) + 911, w2c_j1);
+  i64_store(&instance->w2c_memory, (u64)(w2c_i0) + 728, w2c_j1);
   w2c_j0 = w2c_l3;
   w2c_i0 = (u32)(w2c_j0);
   w2c_j1 = w2c_p1;
-  i64_store(&instance->w2c_memory, (u64)(w2c_i0) + 903, w2c_j1);
+  i64_store(&instance->w2c_memory, (u64)(w2c_i0) + 736, w2c_j1);
   w2c_j0 = w2c_l3;
   w2c_i0 = (u32)(w2c_j0);
   w2c_j1 = w2c_l4;
-  i64_store(&instance->w2c_memory, (u64)(w2c_i0) + 895, w2c_j1);
-  w2c_j0 = w2c_l3;
-  w2c_i0 = (u32)(w2c_j0);
-  w2c_j1 = w2c_l3;
-  w2c_i1 = (u32)(w2c_j1);
-  w2c_j1 = i64_load(&instance->w2c_memory, (u64)(w2c_i1) + 920u);
-  i64_store(&instance->w2c_memory, (u64)(w2c_i0) + 752, w2c_j1);
-  w2c_j0 = w2c_l3;
-  w2c_i0 = (u32)(w2c_j0);
-  w2c_j1 = w2c_l3;
-  w2c_i1 = (u32)(w2c_j1);
-  w2c_j1 = i64_load(&instance->w2c_memory, (u64)(w2c_i1) + 928u);
-  i64_store(&instance->w2c_memory, (u64)(w2c_i0) + 760, w2c_j1);
-  w2c_j0 = w2c_l3;
-  w2c_i0 = (u32)(w2c_j0);
-  w2c_j1 = w2c_l3;
-  w2c_i1 = (u32)(w2c_j1);
-  w2c_j1 = i64_load(&instance->w2c_memory, (u64)(w2c_i1) + 936u);
-  i64_store(&instance->w2c_memory, (u64)(w2c_i0) + 768, w2c_j1);
-  w2c_j0 = w2c_l3;
-  w2c_i0 = (u32)(w2c_j0);
-  w2c_j1 = w2c_l3;
-  w2c_i1 = (u32)(w2c_j1);
-  w2c_i1 = i32_load(&instance->w2c_memory, (u64)(w2c_i1) + 944u);
-  i32_store(&instance->w2c_memory, (u64)(w2c_i0) + 776, w2c_i1);
+  i64_store(&instance->w2c_memory, (u64)(w2c_i0) + 744, w2c_j1);
   w2c_i0 = 2u;
   w2c_i1 = 3u;
   w2c_i2 = w2c_l54;
@@ -16949,41 +16907,23 @@ static void w2c_f9(Z_dine_ffi_instance_t* instance, u64 w2c_p0, u64 w2c_p1, u64 
   w2c_i0 = w2c_i2 ? w2c_i0 : w2c_i1;
   w2c_l41 = w2c_i0;
   w2c_i0 = w2c_l42;
-  if (w2c_i0) {goto w2c_B529;}
+  if (w2c_i0) {goto w2c_B534;}
   w2c_i0 = w2c_l55;
   w2c_i1 = 1u;
   w2c_i0 &= w2c_i1;
-  if (w2c_i0) {goto w2c_B529;}
+  if (w2c_i0) {goto w2c_B534;}
   w2c_i0 = w2c_l46;
   w2c_i1 = 255u;
   w2c_i0 &= w2c_i1;
   w2c_i0 = !(w2c_i0);
-  if (w2c_i0) {goto w2c_B528;}
+  if (w2c_i0) {goto w2c_B533;}
   w2c_i0 = w2c_l46;
   w2c_i1 = 2u;
   w2c_i0 <<= (w2c_i1 & 31);
   w2c_l41 = w2c_i0;
-  w2c_B529:;
+  w2c_B534:;
   w2c_j0 = w2c_l3;
-  w2c_i0 = (u32)(w2c_j0);
-  w2c_j1 = w2c_l3;
-  w2c_i1 = (u32)(w2c_j1);
-  w2c_j1 = i64_load(&instance->w2c_memory, (u64)(w2c_i1) + 772u);
-  i64_store(&instance->w2c_memory, (u64)(w2c_i0) + 672, w2c_j1);
-  w2c_j0 = w2c_l3;
-  w2c_i0 = (u32)(w2c_j0);
-  w2c_j1 = w2c_l3;
-  w2c_i1 = (u32)(w2c_j1);
-  w2c_j1 = i64_load(&instance->w2c_memory, (u64)(w2c_i1) + 764u);
-  i64_store(&instance->w2c_memory, (u64)(w2c_i0) + 664, w2c_j1);
-  w2c_j0 = w2c_l3;
-  w2c_i0 = (u32)(w2c_j0);
-  w2c_j1 = w2c_l3;
-  w2c_i1 = (u32)(w2c_j1);
-  w2c_j1 = i64_load(&instance->w2c_memory, (u64)(w2c_i1) + 756u);
-  i64_store(&instance->w2c_memory, (u64)(w2c_i0) + 656, w2c_j1);
-  w2c_j0 = w2c_l3;
-  w2c_j1 = 656ull;
+  w2c_j1 = 728ull;
   w2c_j0 += w2c_j1;
   w2c_f4(instance, w2c_j0);
   w2c_j0 = w2c_l37;
@@ -17008,71 +16948,69 @@ static void w2c_f9(Z_dine_ffi_instance_t* instance, u64 w2c_p0, u64 w2c_p1, u64 
   w2c_i0 = 1u;
   w2c_l42 = w2c_i0;
   goto w2c_B113;
-  w2c_B528:;
+  w2c_B533:;
+  w2c_j0 = w2c_l3;
+  w2c_i0 = (u32)(w2c_j0);
+  w2c_i1 = 1000u;
+  i32_store(&instance->w2c_memory, (u64)(w2c_i0) + 660, w2c_i1);
   w2c_j0 = w2c_l3;
   w2c_i0 = (u32)(w2c_j0);
   w2c_i1 = w2c_l58;
-  i32_store(&instance->w2c_memory, (u64)(w2c_i0) + 680, w2c_i1);
+  i32_store(&instance->w2c_memory, (u64)(w2c_i0) + 656, w2c_i1);
   w2c_j0 = w2c_l3;
   w2c_i0 = (u32)(w2c_j0);
   w2c_j1 = w2c_l3;
   w2c_i1 = (u32)(w2c_j1);
-  w2c_j1 = i64_load(&instance->w2c_memory, (u64)(w2c_i1) + 752u);
-  i64_store(&instance->w2c_memory, (u64)(w2c_i0) + 684, w2c_j1);
+  w2c_j1 = i64_load(&instance->w2c_memory, (u64)(w2c_i1) + 728u);
+  i64_store(&instance->w2c_memory, (u64)(w2c_i0) + 664, w2c_j1);
   w2c_j0 = w2c_l3;
   w2c_i0 = (u32)(w2c_j0);
   w2c_j1 = w2c_l3;
   w2c_i1 = (u32)(w2c_j1);
-  w2c_j1 = i64_load(&instance->w2c_memory, (u64)(w2c_i1) + 760u);
-  i64_store(&instance->w2c_memory, (u64)(w2c_i0) + 692, w2c_j1);
+  w2c_j1 = i64_load(&instance->w2c_memory, (u64)(w2c_i1) + 736u);
+  i64_store(&instance->w2c_memory, (u64)(w2c_i0) + 672, w2c_j1);
   w2c_j0 = w2c_l3;
   w2c_i0 = (u32)(w2c_j0);
   w2c_j1 = w2c_l3;
   w2c_i1 = (u32)(w2c_j1);
-  w2c_j1 = i64_load(&instance->w2c_memory, (u64)(w2c_i1) + 768u);
-  i64_store(&instance->w2c_memory, (u64)(w2c_i0) + 700, w2c_j1);
-  w2c_j0 = w2c_l3;
-  w2c_i0 = (u32)(w2c_j0);
-  w2c_j1 = w2c_l3;
-  w2c_i1 = (u32)(w2c_j1);
-  w2c_i1 = i32_load(&instance->w2c_memory, (u64)(w2c_i1) + 776u);
-  i32_store(&instance->w2c_memory, (u64)(w2c_i0) + 708, w2c_i1);
+  w2c_j1 = i64_load(&instance->w2c_memory, (u64)(w2c_i1) + 744u);
+  i64_store(&instance->w2c_memory, (u64)(w2c_i0) + 680, w2c_j1);
   w2c_j0 = w2c_l3;
   w2c_i0 = (u32)(w2c_j0);
   w2c_i1 = w2c_l59;
-  i32_store(&instance->w2c_memory, (u64)(w2c_i0) + 748, w2c_i1);
+  i32_store(&instance->w2c_memory, (u64)(w2c_i0) + 724, w2c_i1);
   w2c_j0 = w2c_l3;
   w2c_i0 = (u32)(w2c_j0);
   w2c_i1 = w2c_l66;
-  i32_store(&instance->w2c_memory, (u64)(w2c_i0) + 744, w2c_i1);
+  i32_store(&instance->w2c_memory, (u64)(w2c_i0) + 720, w2c_i1);
   w2c_j0 = w2c_l3;
   w2c_i0 = (u32)(w2c_j0);
   w2c_i1 = w2c_l43;
   w2c_i2 = 0u;
   w2c_i3 = w2c_l44;
   w2c_i1 = w2c_i3 ? w2c_i1 : w2c_i2;
-  i32_store(&instance->w2c_memory, (u64)(w2c_i0) + 740, w2c_i1);
+  i32_store(&instance->w2c_memory, (u64)(w2c_i0) + 716, w2c_i1);
   w2c_j0 = w2c_l3;
   w2c_i0 = (u32)(w2c_j0);
   w2c_i1 = w2c_l44;
-  i32_store(&instance->w2c_memory, (u64)(w2c_i0) + 736, w2c_i1);
+  i32_store(&instance->w2c_memory, (u64)(w2c_i0) + 712, w2c_i1);
   w2c_j0 = w2c_l3;
   w2c_i0 = (u32)(w2c_j0);
   w2c_j1 = w2c_l37;
-  i64_store(&instance->w2c_memory, (u64)(w2c_i0) + 728, w2c_j1);
+  i64_store(&instance->w2c_memory, (u64)(w2c_i0) + 704, w2c_j1);
   w2c_j0 = w2c_l3;
   w2c_i0 = (u32)(w2c_j0);
   w2c_j1 = w2c_l30;
-  i64_store(&instance->w2c_memory, (u64)(w2c_i0) + 720, w2c_j1);
+  i64_store(&instance->w2c_memory, (u64)(w2c_i0) + 696, w2c_j1);
   w2c_j0 = w2c_l3;
   w2c_i0 = (u32)(w2c_j0);
   w2c_j1 = w2c_l38;
-  i64_store(&instance->w2c_memory, (u64)(w2c_i0) + 712, w2c_j1);
+  i64_store(&instance->w2c_memory, (u64)(w2c_i0) + 688, w2c_j1);
   w2c_j0 = w2c_l3;
   w2c_j1 = 304ull;
   w2c_j0 += w2c_j1;
   w2c_j1 = w2c_l3;
-  w2c_j2 = 680ull;
+  w2c_j2 = 656ull;
   w2c_j1 += w2c_j2;
   w2c_f35(instance, w2c_j0, w2c_j1);
   w2c_j0 = w2c_l3;
@@ -17098,16 +17036,16 @@ static void w2c_f9(Z_dine_ffi_instance_t* instance, u64 w2c_p0, u64 w2c_p1, u64 
   w2c_i2 = 124u;
   memory_copy(&instance->w2c_memory, &instance->w2c_memory, w2c_i0, w2c_i1, w2c_i2);
   goto w2c_B113;
-  w2c_B363:;
+  w2c_B368:;
   w2c_j0 = w2c_l3;
-  w2c_j1 = 952ull;
+  w2c_j1 = 888ull;
   w2c_j0 += w2c_j1;
   w2c_j1 = 4ull;
   w2c_j0 |= w2c_j1;
   w2c_p1 = w2c_j0;
   w2c_j0 = w2c_l29;
   w2c_l4 = w2c_j0;
-  w2c_L531: 
+  w2c_L536: 
     w2c_j0 = w2c_l4;
     w2c_i0 = (u32)(w2c_j0);
     w2c_i0 = i32_load16_u(&instance->w2c_memory, (u64)(w2c_i0));
@@ -17115,23 +17053,23 @@ static void w2c_f9(Z_dine_ffi_instance_t* instance, u64 w2c_p0, u64 w2c_p1, u64 
     w2c_j0 = w2c_l3;
     w2c_i0 = (u32)(w2c_j0);
     w2c_j1 = 0ull;
-    i64_store(&instance->w2c_memory, (u64)(w2c_i0) + 984, w2c_j1);
+    i64_store(&instance->w2c_memory, (u64)(w2c_i0) + 920, w2c_j1);
     w2c_j0 = w2c_l3;
     w2c_i0 = (u32)(w2c_j0);
     w2c_j1 = 0ull;
-    i64_store(&instance->w2c_memory, (u64)(w2c_i0) + 976, w2c_j1);
+    i64_store(&instance->w2c_memory, (u64)(w2c_i0) + 912, w2c_j1);
     w2c_j0 = w2c_l3;
     w2c_i0 = (u32)(w2c_j0);
     w2c_j1 = 0ull;
-    i64_store(&instance->w2c_memory, (u64)(w2c_i0) + 968, w2c_j1);
+    i64_store(&instance->w2c_memory, (u64)(w2c_i0) + 904, w2c_j1);
     w2c_j0 = w2c_l3;
     w2c_i0 = (u32)(w2c_j0);
     w2c_j1 = 0ull;
-    i64_store(&instance->w2c_memory, (u64)(w2c_i0) + 960, w2c_j1);
+    i64_store(&instance->w2c_memory, (u64)(w2c_i0) + 896, w2c_j1);
     w2c_j0 = w2c_l3;
     w2c_i0 = (u32)(w2c_j0);
     w2c_j1 = 0ull;
-    i64_store(&instance->w2c_memory, (u64)(w2c_i0) + 952, w2c_j1);
+    i64_store(&instance->w2c_memory, (u64)(w2c_i0) + 888, w2c_j1);
     w2c_j0 = w2c_p1;
     w2c_i0 = (u32)(w2c_j0);
     w2c_j1 = w2c_l4;
@@ -17167,13 +17105,13 @@ static void w2c_f9(Z_dine_ffi_instance_t* instance, u64 w2c_p0, u64 w2c_p1, u64 
     w2c_j0 = w2c_l3;
     w2c_i0 = (u32)(w2c_j0);
     w2c_i1 = w2c_l41;
-    i32_store16(&instance->w2c_memory, (u64)(w2c_i0) + 952, w2c_i1);
+    i32_store16(&instance->w2c_memory, (u64)(w2c_i0) + 888, w2c_i1);
     w2c_j0 = w2c_l4;
     w2c_j1 = 40ull;
     w2c_j0 += w2c_j1;
     w2c_l4 = w2c_j0;
     w2c_j0 = w2c_l3;
-    w2c_j1 = 952ull;
+    w2c_j1 = 888ull;
     w2c_j0 += w2c_j1;
     w2c_f32(instance, w2c_j0);
     w2c_j0 = w2c_l21;
@@ -17182,25 +17120,25 @@ static void w2c_f9(Z_dine_ffi_instance_t* instance, u64 w2c_p0, u64 w2c_p1, u64 
     w2c_l21 = w2c_j0;
     w2c_j1 = 0ull;
     w2c_i0 = w2c_j0 != w2c_j1;
-    if (w2c_i0) {goto w2c_L531;}
+    if (w2c_i0) {goto w2c_L536;}
   w2c_j0 = w2c_l36;
   w2c_i0 = !(w2c_j0);
-  if (w2c_i0) {goto w2c_B361;}
-  w2c_B362:;
+  if (w2c_i0) {goto w2c_B366;}
+  w2c_B367:;
   w2c_j0 = w2c_l29;
   w2c_leave(instance, w2c_j0);
-  w2c_B361:;
+  w2c_B366:;
   w2c_j0 = w2c_l15;
   w2c_i0 = !(w2c_j0);
-  if (w2c_i0) {goto w2c_B360;}
+  if (w2c_i0) {goto w2c_B365;}
   w2c_j0 = w2c_l22;
   w2c_leave(instance, w2c_j0);
-  w2c_B360:;
+  w2c_B365:;
   w2c_j0 = w2c_l3;
-  w2c_j1 = 1112ull;
+  w2c_j1 = 1048ull;
   w2c_j0 += w2c_j1;
   w2c_l4 = w2c_j0;
-  w2c_B359:;
+  w2c_B364:;
   w2c_j0 = w2c_l4;
   w2c_i0 = (u32)(w2c_j0);
   w2c_j1 = 0ull;
@@ -17224,15 +17162,15 @@ static void w2c_f9(Z_dine_ffi_instance_t* instance, u64 w2c_p0, u64 w2c_p1, u64 
   w2c_j0 = w2c_l4;
   w2c_f34(instance, w2c_j0);
   w2c_j0 = w2c_l3;
-  w2c_j1 = 1192ull;
+  w2c_j1 = 1128ull;
   w2c_j0 += w2c_j1;
   w2c_f4(instance, w2c_j0);
   w2c_j0 = w2c_l37;
   w2c_i0 = !(w2c_j0);
-  if (w2c_i0) {goto w2c_B216;}
+  if (w2c_i0) {goto w2c_B221;}
   w2c_j0 = w2c_l38;
   w2c_leave(instance, w2c_j0);
-  w2c_B216:;
+  w2c_B221:;
   w2c_j0 = w2c_l3;
   w2c_j1 = 180ull;
   w2c_j0 += w2c_j1;
@@ -17278,7 +17216,7 @@ static void w2c_f9(Z_dine_ffi_instance_t* instance, u64 w2c_p0, u64 w2c_p1, u64 
   memory_copy(&instance->w2c_memory, &instance->w2c_memory, w2c_i0, w2c_i1, w2c_i2);
   w2c_B1:;
   w2c_j0 = w2c_l3;
-  w2c_j1 = 1392ull;
+  w2c_j1 = 1328ull;
   w2c_j0 += w2c_j1;
   instance->w2c_g0 = w2c_j0;
   w2c_j0 = w2c_l18;
@@ -17344,7 +17282,7 @@ static void w2c_f9(Z_dine_ffi_instance_t* instance, u64 w2c_p0, u64 w2c_p1, u64 
     w2c_l25 = w2c_j0;
     w2c_j0 = w2c_l18;
     w2c_j1 = 136ull;
-    w2c_f136(instance, w2c_j0, w2c_j1);
+    w2c_f140(instance, w2c_j0, w2c_j1);
     w2c_j0 = w2c_l18;
     w2c_j1 = 32ull;
     w2c_j0 += w2c_j1;
@@ -17356,7 +17294,7 @@ static void w2c_f9(Z_dine_ffi_instance_t* instance, u64 w2c_p0, u64 w2c_p1, u64 
     w2c_i1 = 1u;
     w2c_i0 &= w2c_i1;
     w2c_i0 = !(w2c_i0);
-    if (w2c_i0) {goto w2c_B532;}
+    if (w2c_i0) {goto w2c_B537;}
     w2c_j0 = w2c_l18;
     w2c_i0 = (u32)(w2c_j0);
     w2c_j0 = i64_load(&instance->w2c_memory, (u64)(w2c_i0) + 8u);
@@ -17453,7 +17391,7 @@ static void w2c_f9(Z_dine_ffi_instance_t* instance, u64 w2c_p0, u64 w2c_p1, u64 
   w2c_i0 = i32_load8_u(&instance->w2c_memory, (u64)(w2c_i0) + 20u);
   w2c_l42 = w2c_i0;
   goto w2c_B0;
-  w2c_B532:;
+  w2c_B537:;
   w2c_j0 = w2c_p2;
   w2c_f4(instance, w2c_j0);
   w2c_j0 = w2c_l12;
@@ -17476,7 +17414,7 @@ static void w2c_f9(Z_dine_ffi_instance_t* instance, u64 w2c_p0, u64 w2c_p1, u64 
   if (w2c_i0) {
     w2c_j0 = w2c_l4;
     w2c_p2 = w2c_j0;
-    w2c_L537: 
+    w2c_L542: 
       w2c_j0 = w2c_p2;
       w2c_j1 = 16ull;
       w2c_j0 += w2c_j1;
@@ -17500,7 +17438,7 @@ static void w2c_f9(Z_dine_ffi_instance_t* instance, u64 w2c_p0, u64 w2c_p1, u64 
       w2c_p1 = w2c_j0;
       w2c_j1 = 0ull;
       w2c_i0 = w2c_j0 != w2c_j1;
-      if (w2c_i0) {goto w2c_L537;}
+      if (w2c_i0) {goto w2c_L542;}
   }
   w2c_j0 = w2c_l6;
   w2c_i0 = !(w2c_j0);
@@ -19958,7 +19896,7 @@ static void w2c_f11(Z_dine_ffi_instance_t* instance, u64 w2c_p0, u64 w2c_p1) {
     w2c_j2 = 56ull;
     w2c_j1 += w2c_j2;
     w2c_j2 = 968ull;
-    w2c_f136(instance, w2c_j1, w2c_j2);
+    w2c_f140(instance, w2c_j1, w2c_j2);
     w2c_j1 = w2c_l2;
     w2c_i1 = (u32)(w2c_j1);
     w2c_j1 = i64_load(&instance->w2c_memory, (u64)(w2c_i1) + 56u);
@@ -20170,7 +20108,7 @@ static void w2c_f11(Z_dine_ffi_instance_t* instance, u64 w2c_p0, u64 w2c_p1) {
         w2c_j1 = 40ull;
         w2c_j0 += w2c_j1;
         w2c_j1 = 1096ull;
-        w2c_f136(instance, w2c_j0, w2c_j1);
+        w2c_f140(instance, w2c_j0, w2c_j1);
         w2c_j0 = w2c_l2;
         w2c_i0 = (u32)(w2c_j0);
         w2c_j0 = i64_load(&instance->w2c_memory, (u64)(w2c_i0) + 40u);
@@ -20406,7 +20344,7 @@ static void w2c_f11(Z_dine_ffi_instance_t* instance, u64 w2c_p0, u64 w2c_p1) {
             w2c_j1 = 8ull;
             w2c_j0 += w2c_j1;
             w2c_j1 = 968ull;
-            w2c_f136(instance, w2c_j0, w2c_j1);
+            w2c_f140(instance, w2c_j0, w2c_j1);
             w2c_j0 = w2c_l2;
             w2c_i0 = (u32)(w2c_j0);
             w2c_j0 = i64_load(&instance->w2c_memory, (u64)(w2c_i0) + 8u);
@@ -20424,7 +20362,7 @@ static void w2c_f11(Z_dine_ffi_instance_t* instance, u64 w2c_p0, u64 w2c_p1) {
           w2c_j1 = 24ull;
           w2c_j0 += w2c_j1;
           w2c_j1 = 1096ull;
-          w2c_f136(instance, w2c_j0, w2c_j1);
+          w2c_f140(instance, w2c_j0, w2c_j1);
           w2c_j0 = w2c_l2;
           w2c_i0 = (u32)(w2c_j0);
           w2c_j0 = i64_load(&instance->w2c_memory, (u64)(w2c_i0) + 24u);
@@ -29331,7 +29269,7 @@ static void w2c_f18(Z_dine_ffi_instance_t* instance, u64 w2c_p0, u64 w2c_p1, u64
       w2c_j1 = 24ull;
       w2c_j0 += w2c_j1;
       w2c_j1 = w2c_l10;
-      w2c_f136(instance, w2c_j0, w2c_j1);
+      w2c_f140(instance, w2c_j0, w2c_j1);
       w2c_j0 = w2c_l8;
       w2c_i0 = (u32)(w2c_j0);
       w2c_j0 = i64_load(&instance->w2c_memory, (u64)(w2c_i0) + 24u);
@@ -29624,7 +29562,7 @@ static u32 w2c_f19(Z_dine_ffi_instance_t* instance, u64 w2c_p0) {
     w2c_j3 = w2c_l3;
     w2c_j4 = 24ull;
     w2c_j3 *= w2c_j4;
-    w2c_f140(instance, w2c_j0, w2c_j1, w2c_j2, w2c_j3);
+    w2c_f144(instance, w2c_j0, w2c_j1, w2c_j2, w2c_j3);
     w2c_j0 = w2c_l1;
     w2c_i0 = (u32)(w2c_j0);
     w2c_j0 = i64_load(&instance->w2c_memory, (u64)(w2c_i0) + 16u);
@@ -29642,7 +29580,7 @@ static u32 w2c_f19(Z_dine_ffi_instance_t* instance, u64 w2c_p0) {
   w2c_j1 = w2c_l4;
   w2c_j2 = 24ull;
   w2c_j1 *= w2c_j2;
-  w2c_f136(instance, w2c_j0, w2c_j1);
+  w2c_f140(instance, w2c_j0, w2c_j1);
   w2c_j0 = w2c_l1;
   w2c_i0 = (u32)(w2c_j0);
   w2c_j0 = i64_load(&instance->w2c_memory, (u64)(w2c_i0));
@@ -37647,7 +37585,7 @@ static u32 w2c_f29(Z_dine_ffi_instance_t* instance, u64 w2c_p0) {
     w2c_j3 = w2c_l3;
     w2c_j4 = 4ull;
     w2c_j3 <<= (w2c_j4 & 63);
-    w2c_f140(instance, w2c_j0, w2c_j1, w2c_j2, w2c_j3);
+    w2c_f144(instance, w2c_j0, w2c_j1, w2c_j2, w2c_j3);
     w2c_j0 = w2c_l1;
     w2c_i0 = (u32)(w2c_j0);
     w2c_j0 = i64_load(&instance->w2c_memory, (u64)(w2c_i0) + 16u);
@@ -37665,7 +37603,7 @@ static u32 w2c_f29(Z_dine_ffi_instance_t* instance, u64 w2c_p0) {
   w2c_j1 = w2c_l4;
   w2c_j2 = 4ull;
   w2c_j1 <<= (w2c_j2 & 63);
-  w2c_f136(instance, w2c_j0, w2c_j1);
+  w2c_f140(instance, w2c_j0, w2c_j1);
   w2c_j0 = w2c_l1;
   w2c_i0 = (u32)(w2c_j0);
   w2c_j0 = i64_load(&instance->w2c_memory, (u64)(w2c_i0));
@@ -39103,7 +39041,7 @@ static u32 w2c_f33(Z_dine_ffi_instance_t* instance, u64 w2c_p0) {
     w2c_j3 = w2c_l3;
     w2c_j4 = 56ull;
     w2c_j3 *= w2c_j4;
-    w2c_f140(instance, w2c_j0, w2c_j1, w2c_j2, w2c_j3);
+    w2c_f144(instance, w2c_j0, w2c_j1, w2c_j2, w2c_j3);
     w2c_j0 = w2c_l1;
     w2c_i0 = (u32)(w2c_j0);
     w2c_j0 = i64_load(&instance->w2c_memory, (u64)(w2c_i0) + 16u);
@@ -39121,7 +39059,7 @@ static u32 w2c_f33(Z_dine_ffi_instance_t* instance, u64 w2c_p0) {
   w2c_j1 = w2c_l4;
   w2c_j2 = 56ull;
   w2c_j1 *= w2c_j2;
-  w2c_f136(instance, w2c_j0, w2c_j1);
+  w2c_f140(instance, w2c_j0, w2c_j1);
   w2c_j0 = w2c_l1;
   w2c_i0 = (u32)(w2c_j0);
   w2c_j0 = i64_load(&instance->w2c_memory, (u64)(w2c_i0));
@@ -39389,11 +39327,11 @@ static void w2c_f34(Z_dine_ffi_instance_t* instance, u64 w2c_p0) {
 }
 
 static void w2c_f35(Z_dine_ffi_instance_t* instance, u64 w2c_p0, u64 w2c_p1) {
-  u32 w2c_l28 = 0, w2c_l29 = 0, w2c_l30 = 0, w2c_l31 = 0;
+  u32 w2c_l29 = 0, w2c_l30 = 0, w2c_l31 = 0, w2c_l32 = 0;
   u64 w2c_l2 = 0, w2c_l3 = 0, w2c_l4 = 0, w2c_l5 = 0, w2c_l6 = 0, w2c_l7 = 0, w2c_l8 = 0, w2c_l9 = 0, 
       w2c_l10 = 0, w2c_l11 = 0, w2c_l12 = 0, w2c_l13 = 0, w2c_l14 = 0, w2c_l15 = 0, w2c_l16 = 0, w2c_l17 = 0, 
       w2c_l18 = 0, w2c_l19 = 0, w2c_l20 = 0, w2c_l21 = 0, w2c_l22 = 0, w2c_l23 = 0, w2c_l24 = 0, w2c_l25 = 0, 
-      w2c_l26 = 0, w2c_l27 = 0;
+      w2c_l26 = 0, w2c_l27 = 0, w2c_l28 = 0;
   FUNC_PROLOGUE;
   u32 w2c_i0, w2c_i1, w2c_i2, w2c_i3, w2c_i4, w2c_i5;
   u64 w2c_j0, w2c_j1, w2c_j2, w2c_j3, w2c_j4, w2c_j5, w2c_j6;
@@ -39540,9 +39478,13 @@ static void w2c_f35(Z_dine_ffi_instance_t* instance, u64 w2c_p0, u64 w2c_p1) {
   w2c_i0 = !(w2c_j0);
   if (w2c_i0) {
     w2c_i0 = 7u;
-    w2c_l30 = w2c_i0;
+    w2c_l31 = w2c_i0;
     goto w2c_B10;
   }
+  w2c_j0 = w2c_l2;
+  w2c_i0 = (u32)(w2c_j0);
+  w2c_j0 = i64_load32_u(&instance->w2c_memory, (u64)(w2c_i0) + 284u);
+  w2c_l24 = w2c_j0;
   w2c_j0 = w2c_l2;
   w2c_i0 = (u32)(w2c_j0);
   w2c_j0 = i64_load(&instance->w2c_memory, (u64)(w2c_i0) + 288u);
@@ -39552,7 +39494,7 @@ static void w2c_f35(Z_dine_ffi_instance_t* instance, u64 w2c_p0, u64 w2c_p1) {
   w2c_l3 = w2c_j0;
   w2c_L12: 
     w2c_i0 = 5u;
-    w2c_l30 = w2c_i0;
+    w2c_l31 = w2c_i0;
     w2c_j0 = w2c_p1;
     w2c_j1 = 8ull;
     w2c_j0 += w2c_j1;
@@ -39600,23 +39542,23 @@ static void w2c_f35(Z_dine_ffi_instance_t* instance, u64 w2c_p0, u64 w2c_p1) {
         w2c_j0 = w2c_p1;
         w2c_i0 = (u32)(w2c_j0);
         w2c_i0 = i32_load8_u(&instance->w2c_memory, (u64)(w2c_i0));
-        w2c_l28 = w2c_i0;
+        w2c_l29 = w2c_i0;
         w2c_j0 = w2c_p1;
         w2c_j1 = 1ull;
         w2c_j0 += w2c_j1;
         w2c_l5 = w2c_j0;
         w2c_p1 = w2c_j0;
-        w2c_i0 = w2c_l28;
+        w2c_i0 = w2c_l29;
         w2c_i1 = 45u;
         w2c_i0 = w2c_i0 == w2c_i1;
         if (w2c_i0) {goto w2c_L13;}
         w2c_j0 = w2c_l5;
         w2c_p1 = w2c_j0;
-        w2c_i0 = w2c_l28;
+        w2c_i0 = w2c_l29;
         w2c_i1 = 95u;
         w2c_i0 = w2c_i0 == w2c_i1;
         if (w2c_i0) {goto w2c_L13;}
-        w2c_i0 = w2c_l28;
+        w2c_i0 = w2c_l29;
         w2c_i1 = 48u;
         w2c_i0 -= w2c_i1;
         w2c_i1 = 255u;
@@ -39624,7 +39566,7 @@ static void w2c_f35(Z_dine_ffi_instance_t* instance, u64 w2c_p0, u64 w2c_p1) {
         w2c_i1 = 10u;
         w2c_i0 = w2c_i0 < w2c_i1;
         if (w2c_i0) {goto w2c_L13;}
-        w2c_i0 = w2c_l28;
+        w2c_i0 = w2c_l29;
         w2c_i1 = 223u;
         w2c_i0 &= w2c_i1;
         w2c_i1 = 65u;
@@ -39673,23 +39615,23 @@ static void w2c_f35(Z_dine_ffi_instance_t* instance, u64 w2c_p0, u64 w2c_p1) {
           w2c_j0 = w2c_p1;
           w2c_i0 = (u32)(w2c_j0);
           w2c_i0 = i32_load8_u(&instance->w2c_memory, (u64)(w2c_i0));
-          w2c_l28 = w2c_i0;
+          w2c_l29 = w2c_i0;
           w2c_j0 = w2c_p1;
           w2c_j1 = 1ull;
           w2c_j0 += w2c_j1;
           w2c_l5 = w2c_j0;
           w2c_p1 = w2c_j0;
-          w2c_i0 = w2c_l28;
+          w2c_i0 = w2c_l29;
           w2c_i1 = 45u;
           w2c_i0 = w2c_i0 == w2c_i1;
           if (w2c_i0) {goto w2c_L18;}
           w2c_j0 = w2c_l5;
           w2c_p1 = w2c_j0;
-          w2c_i0 = w2c_l28;
+          w2c_i0 = w2c_l29;
           w2c_i1 = 95u;
           w2c_i0 = w2c_i0 == w2c_i1;
           if (w2c_i0) {goto w2c_L18;}
-          w2c_i0 = w2c_l28;
+          w2c_i0 = w2c_l29;
           w2c_i1 = 48u;
           w2c_i0 -= w2c_i1;
           w2c_i1 = 255u;
@@ -39697,7 +39639,7 @@ static void w2c_f35(Z_dine_ffi_instance_t* instance, u64 w2c_p0, u64 w2c_p1) {
           w2c_i1 = 10u;
           w2c_i0 = w2c_i0 < w2c_i1;
           if (w2c_i0) {goto w2c_L18;}
-          w2c_i0 = w2c_l28;
+          w2c_i0 = w2c_l29;
           w2c_i1 = 223u;
           w2c_i0 &= w2c_i1;
           w2c_i1 = 65u;
@@ -39721,10 +39663,10 @@ static void w2c_f35(Z_dine_ffi_instance_t* instance, u64 w2c_p0, u64 w2c_p1) {
         w2c_i0 = w2c_j0 != w2c_j1;
         if (w2c_i0) {goto w2c_L16;}
     }
-    w2c_i0 = w2c_l29;
+    w2c_i0 = w2c_l30;
     w2c_i1 = 1u;
     w2c_i0 += w2c_i1;
-    w2c_l29 = w2c_i0;
+    w2c_l30 = w2c_i0;
     w2c_j0 = w2c_l12;
     w2c_p1 = w2c_j0;
     w2c_j0 = w2c_l3;
@@ -39738,9 +39680,9 @@ static void w2c_f35(Z_dine_ffi_instance_t* instance, u64 w2c_p0, u64 w2c_p1) {
   w2c_j0 = w2c_l2;
   w2c_j1 = 516ull;
   w2c_j0 += w2c_j1;
-  w2c_l24 = w2c_j0;
+  w2c_l25 = w2c_j0;
   w2c_i0 = 0u;
-  w2c_l28 = w2c_i0;
+  w2c_l29 = w2c_i0;
   w2c_L25: 
     w2c_j0 = w2c_l13;
     w2c_j1 = w2c_l18;
@@ -39758,14 +39700,14 @@ static void w2c_f35(Z_dine_ffi_instance_t* instance, u64 w2c_p0, u64 w2c_p1) {
     w2c_j1 += w2c_j2;
     w2c_i1 = (u32)(w2c_j1);
     w2c_j1 = i64_load(&instance->w2c_memory, (u64)(w2c_i1));
-    w2c_l25 = w2c_j1;
+    w2c_l26 = w2c_j1;
     i64_store(&instance->w2c_memory, (u64)(w2c_i0) + 512, w2c_j1);
     w2c_j0 = w2c_l2;
     w2c_i0 = (u32)(w2c_j0);
     w2c_j1 = w2c_l21;
     i64_store(&instance->w2c_memory, (u64)(w2c_i0) + 504, w2c_j1);
     w2c_i0 = 0u;
-    w2c_i1 = w2c_l28;
+    w2c_i1 = w2c_l29;
     w2c_i2 = 1u;
     w2c_i1 &= w2c_i2;
     if (w2c_i1) {
@@ -39783,7 +39725,7 @@ static void w2c_f35(Z_dine_ffi_instance_t* instance, u64 w2c_p0, u64 w2c_p1) {
     w2c_j2 = 48ull;
     w2c_j1 += w2c_j2;
     w2c_j2 = 248ull;
-    w2c_f136(instance, w2c_j1, w2c_j2);
+    w2c_f140(instance, w2c_j1, w2c_j2);
     w2c_j1 = w2c_l2;
     w2c_i1 = (u32)(w2c_j1);
     w2c_j1 = i64_load(&instance->w2c_memory, (u64)(w2c_i1) + 48u);
@@ -39805,9 +39747,9 @@ static void w2c_f35(Z_dine_ffi_instance_t* instance, u64 w2c_p0, u64 w2c_p1) {
     i64_store(&instance->w2c_memory, (u64)(w2c_i1) + 496, w2c_j2);
     w2c_i1 = 0u;
     w2c_B26:;
-    w2c_l30 = w2c_i1;
+    w2c_l31 = w2c_i1;
     w2c_i0 -= w2c_i1;
-    w2c_l29 = w2c_i0;
+    w2c_l30 = w2c_i0;
     w2c_j0 = 0ull;
     w2c_l9 = w2c_j0;
     w2c_j0 = 0ull;
@@ -39816,7 +39758,7 @@ static void w2c_f35(Z_dine_ffi_instance_t* instance, u64 w2c_p0, u64 w2c_p1) {
     w2c_p1 = w2c_j0;
     w2c_l7 = w2c_j0;
     w2c_j0 = 15ull;
-    w2c_i1 = w2c_l30;
+    w2c_i1 = w2c_l31;
     w2c_j1 = (u64)(w2c_i1);
     w2c_j2 = 65535ull;
     w2c_j1 &= w2c_j2;
@@ -39848,11 +39790,11 @@ static void w2c_f35(Z_dine_ffi_instance_t* instance, u64 w2c_p0, u64 w2c_p1) {
         w2c_i0 = w2c_f21(instance, w2c_j0, w2c_j1);
         w2c_i1 = 255u;
         w2c_i0 &= w2c_i1;
-        w2c_l28 = w2c_i0;
+        w2c_l29 = w2c_i0;
         w2c_i1 = 2u;
         w2c_i0 = w2c_i0 != w2c_i1;
         if (w2c_i0) {
-          w2c_i0 = w2c_l28;
+          w2c_i0 = w2c_l29;
           w2c_i1 = 1u;
           w2c_i0 -= w2c_i1;
           if (w2c_i0) {goto w2c_B29;}
@@ -39888,10 +39830,10 @@ static void w2c_f35(Z_dine_ffi_instance_t* instance, u64 w2c_p0, u64 w2c_p1) {
       w2c_i0 = (u32)(w2c_j0);
       w2c_i0 = i32_load16_u(&instance->w2c_memory, (u64)(w2c_i0));
       if (w2c_i0) {
-        w2c_i0 = w2c_l29;
+        w2c_i0 = w2c_l30;
         w2c_i1 = 1u;
         w2c_i0 += w2c_i1;
-        w2c_l29 = w2c_i0;
+        w2c_l30 = w2c_i0;
         w2c_j0 = w2c_l12;
         w2c_j1 = 1ull;
         w2c_j0 += w2c_j1;
@@ -39961,7 +39903,7 @@ static void w2c_f35(Z_dine_ffi_instance_t* instance, u64 w2c_p0, u64 w2c_p1) {
         w2c_j2 = w2c_l14;
         goto w2c_B35;
       }
-      w2c_i2 = w2c_l30;
+      w2c_i2 = w2c_l31;
       w2c_i3 = 65535u;
       w2c_i2 &= w2c_i3;
       w2c_i3 = 10u;
@@ -39975,7 +39917,7 @@ static void w2c_f35(Z_dine_ffi_instance_t* instance, u64 w2c_p0, u64 w2c_p1) {
       w2c_j3 = 32ull;
       w2c_j2 += w2c_j3;
       w2c_j3 = 376ull;
-      w2c_f136(instance, w2c_j2, w2c_j3);
+      w2c_f140(instance, w2c_j2, w2c_j3);
       w2c_j2 = w2c_l2;
       w2c_i2 = (u32)(w2c_j2);
       w2c_j2 = i64_load(&instance->w2c_memory, (u64)(w2c_i2) + 32u);
@@ -40005,7 +39947,7 @@ static void w2c_f35(Z_dine_ffi_instance_t* instance, u64 w2c_p0, u64 w2c_p1) {
       w2c_j3 = 2ull;
       w2c_j2 += w2c_j3;
       w2c_i2 = (u32)(w2c_j2);
-      w2c_i3 = w2c_l30;
+      w2c_i3 = w2c_l31;
       w2c_i4 = 1u;
       w2c_i3 += w2c_i4;
       i32_store16(&instance->w2c_memory, (u64)(w2c_i2), w2c_i3);
@@ -40047,7 +39989,7 @@ static void w2c_f35(Z_dine_ffi_instance_t* instance, u64 w2c_p0, u64 w2c_p1) {
         w2c_p1 = w2c_j2;
         goto w2c_B40;
       }
-      w2c_i2 = w2c_l29;
+      w2c_i2 = w2c_l30;
       w2c_j3 = w2c_l16;
       w2c_i3 = (u32)(w2c_j3);
       w2c_i2 -= w2c_i3;
@@ -40090,7 +40032,7 @@ static void w2c_f35(Z_dine_ffi_instance_t* instance, u64 w2c_p0, u64 w2c_p1) {
       if (w2c_i2) {goto w2c_B39;}
       w2c_L43: 
         w2c_j2 = w2c_p1;
-        w2c_j3 = w2c_l24;
+        w2c_j3 = w2c_l25;
         w2c_j2 += w2c_j3;
         w2c_l4 = w2c_j2;
         w2c_j3 = 3ull;
@@ -40098,7 +40040,7 @@ static void w2c_f35(Z_dine_ffi_instance_t* instance, u64 w2c_p0, u64 w2c_p1) {
         w2c_i2 = (u32)(w2c_j2);
         w2c_j3 = w2c_l8;
         w2c_i3 = (u32)(w2c_j3);
-        w2c_l28 = w2c_i3;
+        w2c_l29 = w2c_i3;
         w2c_i4 = 15u;
         w2c_i3 &= w2c_i4;
         i32_store8(&instance->w2c_memory, (u64)(w2c_i2), w2c_i3);
@@ -40106,7 +40048,7 @@ static void w2c_f35(Z_dine_ffi_instance_t* instance, u64 w2c_p0, u64 w2c_p1) {
         w2c_j3 = 2ull;
         w2c_j2 += w2c_j3;
         w2c_i2 = (u32)(w2c_j2);
-        w2c_i3 = w2c_l28;
+        w2c_i3 = w2c_l29;
         w2c_i4 = 240u;
         w2c_i3 &= w2c_i4;
         w2c_i4 = 4u;
@@ -40116,7 +40058,7 @@ static void w2c_f35(Z_dine_ffi_instance_t* instance, u64 w2c_p0, u64 w2c_p1) {
         w2c_j3 = 1ull;
         w2c_j2 += w2c_j3;
         w2c_i2 = (u32)(w2c_j2);
-        w2c_i3 = w2c_l28;
+        w2c_i3 = w2c_l29;
         w2c_i4 = 8u;
         w2c_i3 >>= (w2c_i4 & 31);
         w2c_i4 = 15u;
@@ -40124,7 +40066,7 @@ static void w2c_f35(Z_dine_ffi_instance_t* instance, u64 w2c_p0, u64 w2c_p1) {
         i32_store8(&instance->w2c_memory, (u64)(w2c_i2), w2c_i3);
         w2c_j2 = w2c_l4;
         w2c_i2 = (u32)(w2c_j2);
-        w2c_i3 = w2c_l28;
+        w2c_i3 = w2c_l29;
         w2c_i4 = 12u;
         w2c_i3 >>= (w2c_i4 & 31);
         w2c_i4 = 15u;
@@ -40169,7 +40111,7 @@ static void w2c_f35(Z_dine_ffi_instance_t* instance, u64 w2c_p0, u64 w2c_p1) {
           w2c_j3 = w2c_l11;
           w2c_i3 = (u32)(w2c_j3);
           w2c_i3 = i32_load8_u(&instance->w2c_memory, (u64)(w2c_i3));
-          w2c_l28 = w2c_i3;
+          w2c_l29 = w2c_i3;
           w2c_j3 = (u64)(w2c_i3);
           w2c_j4 = 255ull;
           w2c_j3 &= w2c_j4;
@@ -40199,7 +40141,7 @@ static void w2c_f35(Z_dine_ffi_instance_t* instance, u64 w2c_p0, u64 w2c_p1) {
           if (w2c_i2) {
             w2c_j2 = w2c_l2;
             w2c_j3 = 248ull;
-            w2c_f136(instance, w2c_j2, w2c_j3);
+            w2c_f140(instance, w2c_j2, w2c_j3);
             w2c_j2 = w2c_l2;
             w2c_i2 = (u32)(w2c_j2);
             w2c_j2 = i64_load(&instance->w2c_memory, (u64)(w2c_i2));
@@ -40217,7 +40159,7 @@ static void w2c_f35(Z_dine_ffi_instance_t* instance, u64 w2c_p0, u64 w2c_p1) {
           w2c_j3 = 16ull;
           w2c_j2 += w2c_j3;
           w2c_j3 = 376ull;
-          w2c_f136(instance, w2c_j2, w2c_j3);
+          w2c_f140(instance, w2c_j2, w2c_j3);
           w2c_j2 = w2c_l2;
           w2c_i2 = (u32)(w2c_j2);
           w2c_j2 = i64_load(&instance->w2c_memory, (u64)(w2c_i2) + 16u);
@@ -40288,7 +40230,7 @@ static void w2c_f35(Z_dine_ffi_instance_t* instance, u64 w2c_p0, u64 w2c_p1) {
           w2c_j5 += w2c_j6;
           w2c_i5 = (u32)(w2c_j5);
           w2c_i5 = i32_load16_u(&instance->w2c_memory, (u64)(w2c_i5));
-          w2c_l29 = w2c_i5;
+          w2c_l30 = w2c_i5;
           w2c_j3 = w2c_i5 ? w2c_j3 : w2c_j4;
           i64_store(&instance->w2c_memory, (u64)(w2c_i2) + 600, w2c_j3);
           w2c_j2 = w2c_l2;
@@ -40297,13 +40239,13 @@ static void w2c_f35(Z_dine_ffi_instance_t* instance, u64 w2c_p0, u64 w2c_p1) {
           w2c_j4 = 1ull;
           w2c_j3 += w2c_j4;
           w2c_j4 = 0ull;
-          w2c_i5 = w2c_l29;
+          w2c_i5 = w2c_l30;
           w2c_j3 = w2c_i5 ? w2c_j3 : w2c_j4;
           i64_store(&instance->w2c_memory, (u64)(w2c_i2) + 592, w2c_j3);
           w2c_j2 = w2c_l4;
           w2c_j3 = w2c_l5;
           w2c_j2 += w2c_j3;
-          w2c_l26 = w2c_j2;
+          w2c_l27 = w2c_j2;
           w2c_i2 = (u32)(w2c_j2);
           w2c_j2 = i64_load(&instance->w2c_memory, (u64)(w2c_i2));
           w2c_l8 = w2c_j2;
@@ -40311,11 +40253,11 @@ static void w2c_f35(Z_dine_ffi_instance_t* instance, u64 w2c_p0, u64 w2c_p1) {
           w2c_j2 += w2c_j3;
           w2c_i2 = (u32)(w2c_j2);
           w2c_i2 = i32_load16_u(&instance->w2c_memory, (u64)(w2c_i2));
-          w2c_l29 = w2c_i2;
+          w2c_l30 = w2c_i2;
           w2c_j2 = w2c_l8;
           w2c_i2 = (u32)(w2c_j2);
           w2c_i2 = i32_load16_u(&instance->w2c_memory, (u64)(w2c_i2));
-          w2c_l30 = w2c_i2;
+          w2c_l31 = w2c_i2;
           w2c_j2 = (u64)(w2c_i2);
           w2c_j3 = 65535ull;
           w2c_j2 &= w2c_j3;
@@ -40346,7 +40288,7 @@ static void w2c_f35(Z_dine_ffi_instance_t* instance, u64 w2c_p0, u64 w2c_p1) {
             w2c_l6 = w2c_j2;
             w2c_j2 = 0ull;
             w2c_l7 = w2c_j2;
-            w2c_i2 = w2c_l30;
+            w2c_i2 = w2c_l31;
             w2c_i3 = 9u;
             w2c_i2 -= w2c_i3;
             w2c_i3 = 65535u;
@@ -40539,8 +40481,8 @@ static void w2c_f35(Z_dine_ffi_instance_t* instance, u64 w2c_p0, u64 w2c_p1) {
           w2c_j2 += w2c_j3;
           w2c_i2 = (u32)(w2c_j2);
           w2c_j2 = i64_load(&instance->w2c_memory, (u64)(w2c_i2));
-          w2c_l27 = w2c_j2;
-          w2c_i2 = w2c_l29;
+          w2c_l28 = w2c_j2;
+          w2c_i2 = w2c_l30;
           w2c_i3 = 65535u;
           w2c_i2 &= w2c_i3;
           w2c_i2 = !(w2c_i2);
@@ -40702,7 +40644,7 @@ static void w2c_f35(Z_dine_ffi_instance_t* instance, u64 w2c_p0, u64 w2c_p1) {
           w2c_i2 = (u32)(w2c_j2);
           w2c_j3 = w2c_l19;
           i64_store16(&instance->w2c_memory, (u64)(w2c_i2), w2c_j3);
-          w2c_j2 = w2c_l26;
+          w2c_j2 = w2c_l27;
           w2c_i2 = (u32)(w2c_j2);
           w2c_j3 = w2c_l8;
           i64_store(&instance->w2c_memory, (u64)(w2c_i2), w2c_j3);
@@ -40710,7 +40652,7 @@ static void w2c_f35(Z_dine_ffi_instance_t* instance, u64 w2c_p0, u64 w2c_p1) {
           w2c_j3 = 536ull;
           w2c_j2 += w2c_j3;
           w2c_j3 = w2c_l22;
-          w2c_j4 = w2c_l27;
+          w2c_j4 = w2c_l28;
           w2c_j5 = w2c_l20;
           w2c_f25(instance, w2c_j2, w2c_j3, w2c_j4, w2c_j5);
           w2c_j2 = w2c_l22;
@@ -40774,28 +40716,28 @@ static void w2c_f35(Z_dine_ffi_instance_t* instance, u64 w2c_p0, u64 w2c_p1) {
           w2c_j2 = w2c_l11;
           w2c_i2 = (u32)(w2c_j2);
           w2c_i2 = i32_load8_u(&instance->w2c_memory, (u64)(w2c_i2) + 1u);
-          w2c_l29 = w2c_i2;
+          w2c_l30 = w2c_i2;
           w2c_i3 = 7u;
           w2c_i2 = w2c_i2 <= w2c_i3;
           if (w2c_i2) {
             w2c_j2 = w2c_l11;
             w2c_i2 = (u32)(w2c_j2);
             w2c_i2 = i32_load8_u(&instance->w2c_memory, (u64)(w2c_i2));
-            w2c_l28 = w2c_i2;
+            w2c_l29 = w2c_i2;
             goto w2c_B46;
           }
           w2c_j2 = w2c_l11;
           w2c_i2 = (u32)(w2c_j2);
-          w2c_i3 = w2c_l29;
+          w2c_i3 = w2c_l30;
           w2c_i4 = 8u;
           w2c_i3 -= w2c_i4;
           i32_store8(&instance->w2c_memory, (u64)(w2c_i2) + 1, w2c_i3);
           w2c_j2 = w2c_l11;
           w2c_i2 = (u32)(w2c_j2);
-          w2c_i3 = w2c_l28;
+          w2c_i3 = w2c_l29;
           w2c_i4 = 1u;
           w2c_i3 += w2c_i4;
-          w2c_l28 = w2c_i3;
+          w2c_l29 = w2c_i3;
           i32_store8(&instance->w2c_memory, (u64)(w2c_i2), w2c_i3);
           w2c_B46:;
           w2c_j2 = w2c_l14;
@@ -40807,7 +40749,7 @@ static void w2c_f35(Z_dine_ffi_instance_t* instance, u64 w2c_p0, u64 w2c_p1) {
           w2c_j2 += w2c_j3;
           w2c_l11 = w2c_j2;
           w2c_j2 = w2c_l7;
-          w2c_i3 = w2c_l28;
+          w2c_i3 = w2c_l29;
           w2c_j3 = (u64)(w2c_i3);
           w2c_j4 = 255ull;
           w2c_j3 &= w2c_j4;
@@ -40904,7 +40846,7 @@ static void w2c_f35(Z_dine_ffi_instance_t* instance, u64 w2c_p0, u64 w2c_p1) {
     w2c_j3 += w2c_j4;
     w2c_i3 = (u32)(w2c_j3);
     w2c_i3 = i32_load16_u(&instance->w2c_memory, (u64)(w2c_i3));
-    w2c_l28 = w2c_i3;
+    w2c_l29 = w2c_i3;
     w2c_j1 = w2c_i3 ? w2c_j1 : w2c_j2;
     i64_store(&instance->w2c_memory, (u64)(w2c_i0) + 600, w2c_j1);
     w2c_j0 = w2c_l2;
@@ -40913,7 +40855,7 @@ static void w2c_f35(Z_dine_ffi_instance_t* instance, u64 w2c_p0, u64 w2c_p1) {
     w2c_j2 = 1ull;
     w2c_j1 += w2c_j2;
     w2c_j2 = 0ull;
-    w2c_i3 = w2c_l28;
+    w2c_i3 = w2c_l29;
     w2c_j1 = w2c_i3 ? w2c_j1 : w2c_j2;
     i64_store(&instance->w2c_memory, (u64)(w2c_i0) + 592, w2c_j1);
     w2c_j0 = w2c_l2;
@@ -40923,7 +40865,7 @@ static void w2c_f35(Z_dine_ffi_instance_t* instance, u64 w2c_p0, u64 w2c_p1) {
     w2c_j2 = 15ull;
     w2c_j1 &= w2c_j2;
     w2c_j2 = w2c_l21;
-    w2c_j3 = w2c_l25;
+    w2c_j3 = w2c_l26;
     w2c_f25(instance, w2c_j0, w2c_j1, w2c_j2, w2c_j3);
     w2c_j0 = w2c_l2;
     w2c_i0 = (u32)(w2c_j0);
@@ -40939,7 +40881,7 @@ static void w2c_f35(Z_dine_ffi_instance_t* instance, u64 w2c_p0, u64 w2c_p1) {
     w2c_j1 = w2c_p1;
     i64_store(&instance->w2c_memory, (u64)(w2c_i0), w2c_j1);
     w2c_i0 = 1u;
-    w2c_l28 = w2c_i0;
+    w2c_l29 = w2c_i0;
     w2c_j0 = w2c_l18;
     w2c_j1 = 1ull;
     w2c_j0 += w2c_j1;
@@ -40956,9 +40898,9 @@ static void w2c_f35(Z_dine_ffi_instance_t* instance, u64 w2c_p0, u64 w2c_p1) {
   w2c_i0 = w2c_j0 <= w2c_j1;
   if (w2c_i0) {goto w2c_B20;}
   w2c_i0 = 0u;
-  w2c_l29 = w2c_i0;
-  w2c_i0 = 8u;
   w2c_l30 = w2c_i0;
+  w2c_i0 = 8u;
+  w2c_l31 = w2c_i0;
   goto w2c_B10;
   w2c_B24:;
   w2c_j0 = w2c_l2;
@@ -41019,32 +40961,38 @@ static void w2c_f35(Z_dine_ffi_instance_t* instance, u64 w2c_p0, u64 w2c_p1) {
   UNREACHABLE;
   w2c_B20:;
   w2c_j0 = w2c_l13;
-  w2c_j1 = 32ull;
+  w2c_j1 = 48ull;
   w2c_j0 += w2c_j1;
   w2c_p1 = w2c_j0;
   w2c_i0 = 0u;
-  w2c_l29 = w2c_i0;
+  w2c_l30 = w2c_i0;
   w2c_j0 = w2c_l10;
   w2c_l4 = w2c_j0;
   w2c_L61: 
-    w2c_j0 = w2c_p1;
-    w2c_i0 = (u32)(w2c_j0);
-    w2c_j0 = i64_load(&instance->w2c_memory, (u64)(w2c_i0));
-    w2c_j1 = 1000ull;
-    w2c_i0 = w2c_j0 > w2c_j1;
+    w2c_j0 = w2c_l24;
+    w2c_j1 = w2c_p1;
+    w2c_j2 = 16ull;
+    w2c_j1 -= w2c_j2;
+    w2c_i1 = (u32)(w2c_j1);
+    w2c_j1 = i64_load(&instance->w2c_memory, (u64)(w2c_i1));
+    w2c_j2 = w2c_p1;
+    w2c_i2 = (u32)(w2c_j2);
+    w2c_j2 = i64_load32_u(&instance->w2c_memory, (u64)(w2c_i2));
+    w2c_j1 += w2c_j2;
+    w2c_i0 = w2c_j0 < w2c_j1;
     if (w2c_i0) {
       w2c_i0 = 9u;
-      w2c_l30 = w2c_i0;
+      w2c_l31 = w2c_i0;
       goto w2c_B10;
     }
     w2c_j0 = w2c_p1;
     w2c_j1 = 56ull;
     w2c_j0 += w2c_j1;
     w2c_p1 = w2c_j0;
-    w2c_i0 = w2c_l29;
+    w2c_i0 = w2c_l30;
     w2c_i1 = 1u;
     w2c_i0 += w2c_i1;
-    w2c_l29 = w2c_i0;
+    w2c_l30 = w2c_i0;
     w2c_j0 = w2c_l4;
     w2c_j1 = 1ull;
     w2c_j0 -= w2c_j1;
@@ -41053,7 +41001,7 @@ static void w2c_f35(Z_dine_ffi_instance_t* instance, u64 w2c_p0, u64 w2c_p1) {
     w2c_i0 = w2c_j0 != w2c_j1;
     if (w2c_i0) {goto w2c_L61;}
   w2c_i0 = 0u;
-  w2c_l29 = w2c_i0;
+  w2c_l30 = w2c_i0;
   w2c_L63: 
     w2c_j0 = w2c_l10;
     w2c_j1 = 1ull;
@@ -41090,23 +41038,23 @@ static void w2c_f35(Z_dine_ffi_instance_t* instance, u64 w2c_p0, u64 w2c_p1) {
         w2c_j0 = w2c_p1;
         w2c_i0 = (u32)(w2c_j0);
         w2c_i0 = i32_load(&instance->w2c_memory, (u64)(w2c_i0));
-        w2c_l28 = w2c_i0;
+        w2c_l29 = w2c_i0;
         w2c_i0 = 10u;
-        w2c_l30 = w2c_i0;
+        w2c_l31 = w2c_i0;
         w2c_j0 = w2c_p1;
         w2c_j1 = 56ull;
         w2c_j0 += w2c_j1;
         w2c_p1 = w2c_j0;
-        w2c_i0 = w2c_l28;
+        w2c_i0 = w2c_l29;
         w2c_i1 = 1000000u;
         w2c_i0 = w2c_i0 <= w2c_i1;
         if (w2c_i0) {goto w2c_L64;}
         goto w2c_B10;
       }
-    w2c_i0 = w2c_l29;
+    w2c_i0 = w2c_l30;
     w2c_i1 = 1u;
     w2c_i0 += w2c_i1;
-    w2c_l29 = w2c_i0;
+    w2c_l30 = w2c_i0;
     w2c_j0 = w2c_l5;
     w2c_l13 = w2c_j0;
     w2c_j0 = w2c_l10;
@@ -41125,7 +41073,7 @@ static void w2c_f35(Z_dine_ffi_instance_t* instance, u64 w2c_p0, u64 w2c_p1) {
     w2c_j0 = i64_load(&instance->w2c_memory, (u64)(w2c_i0) + 296u);
     w2c_l4 = w2c_j0;
     w2c_i0 = 0u;
-    w2c_l29 = w2c_i0;
+    w2c_l30 = w2c_i0;
     w2c_j0 = w2c_l2;
     w2c_i0 = (u32)(w2c_j0);
     w2c_j0 = i64_load(&instance->w2c_memory, (u64)(w2c_i0) + 312u);
@@ -41135,7 +41083,7 @@ static void w2c_f35(Z_dine_ffi_instance_t* instance, u64 w2c_p0, u64 w2c_p1) {
     w2c_l5 = w2c_j0;
     w2c_L68: 
       w2c_i0 = 11u;
-      w2c_l30 = w2c_i0;
+      w2c_l31 = w2c_i0;
       w2c_j0 = w2c_l4;
       w2c_j1 = w2c_p1;
       w2c_i1 = (u32)(w2c_j1);
@@ -41154,10 +41102,10 @@ static void w2c_f35(Z_dine_ffi_instance_t* instance, u64 w2c_p0, u64 w2c_p1) {
       w2c_j1 = 16ull;
       w2c_j0 += w2c_j1;
       w2c_p1 = w2c_j0;
-      w2c_i0 = w2c_l29;
+      w2c_i0 = w2c_l30;
       w2c_i1 = 1u;
       w2c_i0 += w2c_i1;
-      w2c_l29 = w2c_i0;
+      w2c_l30 = w2c_i0;
       w2c_j0 = w2c_l5;
       w2c_j1 = 1ull;
       w2c_j0 -= w2c_j1;
@@ -41166,7 +41114,7 @@ static void w2c_f35(Z_dine_ffi_instance_t* instance, u64 w2c_p0, u64 w2c_p1) {
       w2c_i0 = w2c_j0 != w2c_j1;
       if (w2c_i0) {goto w2c_L68;}
     w2c_i0 = 0u;
-    w2c_l29 = w2c_i0;
+    w2c_l30 = w2c_i0;
     w2c_j0 = w2c_l10;
     w2c_p1 = w2c_j0;
     w2c_j0 = w2c_l6;
@@ -41177,31 +41125,31 @@ static void w2c_f35(Z_dine_ffi_instance_t* instance, u64 w2c_p0, u64 w2c_p1) {
       w2c_j0 += w2c_j1;
       w2c_i0 = (u32)(w2c_j0);
       w2c_i0 = i32_load(&instance->w2c_memory, (u64)(w2c_i0));
-      w2c_l30 = w2c_i0;
+      w2c_l31 = w2c_i0;
       w2c_j1 = w2c_p1;
       w2c_i1 = (u32)(w2c_j1);
       w2c_i1 = i32_load(&instance->w2c_memory, (u64)(w2c_i1));
-      w2c_l28 = w2c_i1;
+      w2c_l29 = w2c_i1;
       w2c_i0 = w2c_i0 != w2c_i1;
       if (w2c_i0) {goto w2c_B70;}
       w2c_j0 = w2c_l4;
-      w2c_i1 = w2c_l28;
+      w2c_i1 = w2c_l29;
       w2c_j1 = (u64)(w2c_i1);
       w2c_i0 = w2c_j0 <= w2c_j1;
       if (w2c_i0) {goto w2c_B70;}
       w2c_j0 = w2c_l4;
-      w2c_i1 = w2c_l30;
+      w2c_i1 = w2c_l31;
       w2c_j1 = (u64)(w2c_i1);
       w2c_i0 = w2c_j0 <= w2c_j1;
       if (w2c_i0) {goto w2c_B70;}
       w2c_i0 = 12u;
-      w2c_l30 = w2c_i0;
+      w2c_l31 = w2c_i0;
       goto w2c_B10;
       w2c_B70:;
-      w2c_i0 = w2c_l29;
+      w2c_i0 = w2c_l30;
       w2c_i1 = 1u;
       w2c_i0 += w2c_i1;
-      w2c_l29 = w2c_i0;
+      w2c_l30 = w2c_i0;
       w2c_j0 = w2c_p1;
       w2c_j1 = 16ull;
       w2c_j0 += w2c_j1;
@@ -41243,11 +41191,11 @@ static void w2c_f35(Z_dine_ffi_instance_t* instance, u64 w2c_p0, u64 w2c_p1) {
       w2c_j0 += w2c_j1;
       w2c_i0 = (u32)(w2c_j0);
       w2c_i0 = i32_load(&instance->w2c_memory, (u64)(w2c_i0));
-      w2c_l28 = w2c_i0;
+      w2c_l29 = w2c_i0;
       w2c_j0 = w2c_l10;
       w2c_i0 = (u32)(w2c_j0);
       w2c_i0 = i32_load(&instance->w2c_memory, (u64)(w2c_i0));
-      w2c_l29 = w2c_i0;
+      w2c_l30 = w2c_i0;
       w2c_j0 = w2c_l4;
       w2c_j1 = w2c_l2;
       w2c_i1 = (u32)(w2c_j1);
@@ -41276,17 +41224,17 @@ static void w2c_f35(Z_dine_ffi_instance_t* instance, u64 w2c_p0, u64 w2c_p1) {
       w2c_j1 <<= (w2c_j2 & 63);
       w2c_j0 += w2c_j1;
       w2c_i0 = (u32)(w2c_j0);
-      w2c_i1 = w2c_l28;
-      w2c_i2 = w2c_l29;
-      w2c_i3 = w2c_l28;
-      w2c_i4 = w2c_l29;
+      w2c_i1 = w2c_l29;
+      w2c_i2 = w2c_l30;
+      w2c_i3 = w2c_l29;
+      w2c_i4 = w2c_l30;
       w2c_i3 = w2c_i3 < w2c_i4;
       w2c_i1 = w2c_i3 ? w2c_i1 : w2c_i2;
       w2c_j1 = (u64)(w2c_i1);
-      w2c_i2 = w2c_l28;
-      w2c_i3 = w2c_l29;
-      w2c_i4 = w2c_l28;
-      w2c_i5 = w2c_l29;
+      w2c_i2 = w2c_l29;
+      w2c_i3 = w2c_l30;
+      w2c_i4 = w2c_l29;
+      w2c_i5 = w2c_l30;
       w2c_i4 = w2c_i4 > w2c_i5;
       w2c_i2 = w2c_i4 ? w2c_i2 : w2c_i3;
       w2c_j2 = (u64)(w2c_i2);
@@ -41321,7 +41269,7 @@ static void w2c_f35(Z_dine_ffi_instance_t* instance, u64 w2c_p0, u64 w2c_p1) {
     w2c_j0 = i64_load(&instance->w2c_memory, (u64)(w2c_i0) + 552u);
     w2c_l12 = w2c_j0;
     w2c_i0 = !(w2c_j0);
-    w2c_l31 = w2c_i0;
+    w2c_l32 = w2c_i0;
     w2c_j0 = w2c_l4;
     w2c_i0 = !(w2c_j0);
     if (w2c_i0) {goto w2c_B66;}
@@ -41342,11 +41290,11 @@ static void w2c_f35(Z_dine_ffi_instance_t* instance, u64 w2c_p0, u64 w2c_p1) {
         w2c_p1 = w2c_j0;
         w2c_i0 = (u32)(w2c_j0);
         w2c_i0 = i32_load(&instance->w2c_memory, (u64)(w2c_i0) + 4u);
-        w2c_l29 = w2c_i0;
+        w2c_l30 = w2c_i0;
         w2c_j0 = w2c_p1;
         w2c_i0 = (u32)(w2c_j0);
         w2c_i0 = i32_load(&instance->w2c_memory, (u64)(w2c_i0));
-        w2c_l28 = w2c_i0;
+        w2c_l29 = w2c_i0;
         w2c_j0 = w2c_l3;
         w2c_l5 = w2c_j0;
         w2c_j0 = w2c_l6;
@@ -41355,10 +41303,10 @@ static void w2c_f35(Z_dine_ffi_instance_t* instance, u64 w2c_p0, u64 w2c_p1) {
           w2c_j0 = w2c_p1;
           w2c_i0 = (u32)(w2c_j0);
           w2c_i0 = i32_load(&instance->w2c_memory, (u64)(w2c_i0));
-          w2c_i1 = w2c_l28;
+          w2c_i1 = w2c_l29;
           w2c_i0 = w2c_i0 == w2c_i1;
           if (w2c_i0) {
-            w2c_i0 = w2c_l29;
+            w2c_i0 = w2c_l30;
             w2c_j1 = w2c_p1;
             w2c_j2 = 4ull;
             w2c_j1 += w2c_j2;
@@ -41386,12 +41334,12 @@ static void w2c_f35(Z_dine_ffi_instance_t* instance, u64 w2c_p0, u64 w2c_p1) {
       w2c_j0 = w2c_l8;
       w2c_j1 = w2c_l10;
       w2c_i0 = w2c_j0 == w2c_j1;
-      w2c_l28 = w2c_i0;
+      w2c_l29 = w2c_i0;
       w2c_j0 = w2c_l10;
       w2c_j1 = 1ull;
       w2c_j0 += w2c_j1;
       w2c_l10 = w2c_j0;
-      w2c_i0 = w2c_l28;
+      w2c_i0 = w2c_l29;
       w2c_i0 = !(w2c_i0);
       if (w2c_i0) {goto w2c_L76;}
     w2c_j0 = w2c_l4;
@@ -41399,9 +41347,9 @@ static void w2c_f35(Z_dine_ffi_instance_t* instance, u64 w2c_p0, u64 w2c_p1) {
     w2c_i0 = w2c_j0 <= w2c_j1;
     if (w2c_i0) {goto w2c_B66;}
     w2c_i0 = 0u;
-    w2c_l29 = w2c_i0;
-    w2c_i0 = 14u;
     w2c_l30 = w2c_i0;
+    w2c_i0 = 14u;
+    w2c_l31 = w2c_i0;
     w2c_j0 = w2c_l12;
     w2c_i0 = !(w2c_j0);
     w2c_i0 = !(w2c_i0);
@@ -41421,9 +41369,9 @@ static void w2c_f35(Z_dine_ffi_instance_t* instance, u64 w2c_p0, u64 w2c_p1) {
     w2c_B72:;
     w2c_j0 = w2c_l10;
     w2c_i0 = (u32)(w2c_j0);
-    w2c_l29 = w2c_i0;
-    w2c_i0 = 13u;
     w2c_l30 = w2c_i0;
+    w2c_i0 = 13u;
+    w2c_l31 = w2c_i0;
     w2c_j0 = w2c_l12;
     w2c_i0 = !(w2c_j0);
     if (w2c_i0) {goto w2c_B10;}
@@ -41433,7 +41381,7 @@ static void w2c_f35(Z_dine_ffi_instance_t* instance, u64 w2c_p0, u64 w2c_p1) {
     goto w2c_B10;
   }
   w2c_i0 = 1u;
-  w2c_l31 = w2c_i0;
+  w2c_l32 = w2c_i0;
   w2c_j0 = w2c_l2;
   w2c_j1 = 620ull;
   w2c_j0 += w2c_j1;
@@ -41452,11 +41400,11 @@ static void w2c_f35(Z_dine_ffi_instance_t* instance, u64 w2c_p0, u64 w2c_p1) {
   w2c_j0 += w2c_j1;
   w2c_l3 = w2c_j0;
   w2c_i0 = 0u;
-  w2c_l28 = w2c_i0;
-  w2c_i0 = 0u;
   w2c_l29 = w2c_i0;
-  w2c_i0 = 1u;
+  w2c_i0 = 0u;
   w2c_l30 = w2c_i0;
+  w2c_i0 = 1u;
+  w2c_l31 = w2c_i0;
   w2c_j0 = w2c_l2;
   w2c_j1 = 280ull;
   w2c_j0 += w2c_j1;
@@ -41469,7 +41417,7 @@ static void w2c_f35(Z_dine_ffi_instance_t* instance, u64 w2c_p0, u64 w2c_p1) {
   w2c_i0 = w2c_i0 == w2c_i1;
   if (w2c_i0) {
     w2c_i0 = 15u;
-    w2c_l29 = w2c_i0;
+    w2c_l30 = w2c_i0;
     w2c_j0 = 60ull;
     goto w2c_B81;
   }
@@ -41533,13 +41481,13 @@ static void w2c_f35(Z_dine_ffi_instance_t* instance, u64 w2c_p0, u64 w2c_p1) {
         w2c_i0 = w2c_j0 <= w2c_j1;
         if (w2c_i0) {goto w2c_L86;}
       w2c_i0 = 16u;
-      w2c_l29 = w2c_i0;
+      w2c_l30 = w2c_i0;
       goto w2c_B80;
       w2c_B85:;
-      w2c_i0 = w2c_l28;
+      w2c_i0 = w2c_l29;
       w2c_i1 = 1u;
       w2c_i0 += w2c_i1;
-      w2c_l28 = w2c_i0;
+      w2c_l29 = w2c_i0;
       w2c_j0 = w2c_l5;
       w2c_p1 = w2c_j0;
       w2c_j0 = w2c_l10;
@@ -41565,7 +41513,7 @@ static void w2c_f35(Z_dine_ffi_instance_t* instance, u64 w2c_p0, u64 w2c_p1) {
     w2c_j0 += w2c_j1;
     w2c_p1 = w2c_j0;
     w2c_i0 = 0u;
-    w2c_l28 = w2c_i0;
+    w2c_l29 = w2c_i0;
     w2c_L88: 
       w2c_j0 = w2c_p1;
       w2c_i0 = (u32)(w2c_j0);
@@ -41574,17 +41522,17 @@ static void w2c_f35(Z_dine_ffi_instance_t* instance, u64 w2c_p0, u64 w2c_p1) {
       w2c_i0 = w2c_j0 > w2c_j1;
       if (w2c_i0) {
         w2c_i0 = 17u;
-        w2c_l29 = w2c_i0;
+        w2c_l30 = w2c_i0;
         goto w2c_B80;
       }
       w2c_j0 = w2c_p1;
       w2c_j1 = 16ull;
       w2c_j0 += w2c_j1;
       w2c_p1 = w2c_j0;
-      w2c_i0 = w2c_l28;
+      w2c_i0 = w2c_l29;
       w2c_i1 = 1u;
       w2c_i0 += w2c_i1;
-      w2c_l28 = w2c_i0;
+      w2c_l29 = w2c_i0;
       w2c_j0 = w2c_l11;
       w2c_j1 = 1ull;
       w2c_j0 -= w2c_j1;
@@ -41602,56 +41550,56 @@ static void w2c_f35(Z_dine_ffi_instance_t* instance, u64 w2c_p0, u64 w2c_p1) {
   w2c_i0 = w2c_i0 != w2c_i1;
   if (w2c_i0) {
     w2c_i0 = 0u;
-    w2c_l30 = w2c_i0;
+    w2c_l31 = w2c_i0;
     w2c_i0 = 0u;
-    w2c_l28 = w2c_i0;
+    w2c_l29 = w2c_i0;
     goto w2c_B80;
   }
   w2c_i0 = 18u;
-  w2c_l29 = w2c_i0;
+  w2c_l30 = w2c_i0;
   w2c_j0 = 68ull;
   w2c_B81:;
   w2c_j1 = w2c_l4;
   w2c_j0 += w2c_j1;
   w2c_i0 = (u32)(w2c_j0);
   w2c_i0 = i32_load(&instance->w2c_memory, (u64)(w2c_i0));
-  w2c_l28 = w2c_i0;
+  w2c_l29 = w2c_i0;
   w2c_B80:;
   w2c_j0 = w2c_l3;
   w2c_i0 = (u32)(w2c_j0);
-  w2c_i1 = w2c_l30;
+  w2c_i1 = w2c_l31;
   i32_store(&instance->w2c_memory, (u64)(w2c_i0), w2c_i1);
   w2c_j0 = w2c_l3;
   w2c_j1 = 8ull;
   w2c_j0 += w2c_j1;
   w2c_i0 = (u32)(w2c_j0);
-  w2c_i1 = w2c_l28;
+  w2c_i1 = w2c_l29;
   i32_store(&instance->w2c_memory, (u64)(w2c_i0), w2c_i1);
   w2c_j0 = w2c_l3;
   w2c_j1 = 4ull;
   w2c_j0 += w2c_j1;
   w2c_i0 = (u32)(w2c_j0);
-  w2c_i1 = w2c_l29;
+  w2c_i1 = w2c_l30;
   i32_store(&instance->w2c_memory, (u64)(w2c_i0), w2c_i1);
   w2c_j0 = w2c_l2;
   w2c_i0 = (u32)(w2c_j0);
   w2c_i0 = i32_load(&instance->w2c_memory, (u64)(w2c_i0) + 488u);
-  w2c_l29 = w2c_i0;
-  w2c_j0 = w2c_l2;
-  w2c_i0 = (u32)(w2c_j0);
-  w2c_i0 = i32_load8_u(&instance->w2c_memory, (u64)(w2c_i0) + 484u);
   w2c_l30 = w2c_i0;
   w2c_j0 = w2c_l2;
   w2c_i0 = (u32)(w2c_j0);
+  w2c_i0 = i32_load8_u(&instance->w2c_memory, (u64)(w2c_i0) + 484u);
+  w2c_l31 = w2c_i0;
+  w2c_j0 = w2c_l2;
+  w2c_i0 = (u32)(w2c_j0);
   w2c_i0 = i32_load8_u(&instance->w2c_memory, (u64)(w2c_i0) + 480u);
-  w2c_l28 = w2c_i0;
-  w2c_i0 = w2c_l31;
+  w2c_l29 = w2c_i0;
+  w2c_i0 = w2c_l32;
   w2c_i0 = !(w2c_i0);
   if (w2c_i0) {
     w2c_j0 = w2c_l6;
     w2c_leave(instance, w2c_j0);
   }
-  w2c_i0 = w2c_l28;
+  w2c_i0 = w2c_l29;
   w2c_i1 = 255u;
   w2c_i0 &= w2c_i1;
   w2c_i1 = 1u;
@@ -41698,16 +41646,16 @@ static void w2c_f35(Z_dine_ffi_instance_t* instance, u64 w2c_p0, u64 w2c_p1) {
   w2c_f71(instance, w2c_j0);
   w2c_j0 = w2c_l18;
   w2c_i0 = (u32)(w2c_j0);
-  w2c_l29 = w2c_i0;
-  w2c_i0 = 6u;
   w2c_l30 = w2c_i0;
+  w2c_i0 = 6u;
+  w2c_l31 = w2c_i0;
   w2c_B10:;
   w2c_j0 = w2c_l15;
   w2c_f4(instance, w2c_j0);
-  w2c_i0 = w2c_l30;
+  w2c_i0 = w2c_l31;
   w2c_i1 = 255u;
   w2c_i0 &= w2c_i1;
-  w2c_l28 = w2c_i0;
+  w2c_l29 = w2c_i0;
   w2c_j0 = w2c_l2;
   w2c_i0 = (u32)(w2c_j0);
   w2c_j0 = i64_load(&instance->w2c_memory, (u64)(w2c_i0) + 328u);
@@ -41727,13 +41675,13 @@ static void w2c_f35(Z_dine_ffi_instance_t* instance, u64 w2c_p0, u64 w2c_p1) {
   w2c_j1 = 8ull;
   w2c_j0 += w2c_j1;
   w2c_i0 = (u32)(w2c_j0);
-  w2c_i1 = w2c_l29;
+  w2c_i1 = w2c_l30;
   i32_store(&instance->w2c_memory, (u64)(w2c_i0), w2c_i1);
   w2c_j0 = w2c_p0;
   w2c_j1 = 4ull;
   w2c_j0 += w2c_j1;
   w2c_i0 = (u32)(w2c_j0);
-  w2c_i1 = w2c_l28;
+  w2c_i1 = w2c_l29;
   i32_store(&instance->w2c_memory, (u64)(w2c_i0), w2c_i1);
   w2c_j0 = w2c_p0;
   w2c_j1 = 12ull;
@@ -41759,11 +41707,11 @@ static void w2c_f35(Z_dine_ffi_instance_t* instance, u64 w2c_p0, u64 w2c_p1) {
     w2c_j0 += w2c_j1;
     w2c_i0 = (u32)(w2c_j0);
     w2c_i0 = i32_load(&instance->w2c_memory, (u64)(w2c_i0));
-    w2c_l28 = w2c_i0;
+    w2c_l29 = w2c_i0;
     w2c_j0 = w2c_p1;
     w2c_i0 = (u32)(w2c_j0);
     w2c_i0 = i32_load(&instance->w2c_memory, (u64)(w2c_i0));
-    w2c_l29 = w2c_i0;
+    w2c_l30 = w2c_i0;
     w2c_j0 = w2c_l4;
     w2c_j1 = w2c_l2;
     w2c_i1 = (u32)(w2c_j1);
@@ -41791,17 +41739,17 @@ static void w2c_f35(Z_dine_ffi_instance_t* instance, u64 w2c_p0, u64 w2c_p1) {
     w2c_j1 <<= (w2c_j2 & 63);
     w2c_j0 += w2c_j1;
     w2c_i0 = (u32)(w2c_j0);
-    w2c_i1 = w2c_l28;
-    w2c_i2 = w2c_l29;
-    w2c_i3 = w2c_l28;
-    w2c_i4 = w2c_l29;
+    w2c_i1 = w2c_l29;
+    w2c_i2 = w2c_l30;
+    w2c_i3 = w2c_l29;
+    w2c_i4 = w2c_l30;
     w2c_i3 = w2c_i3 < w2c_i4;
     w2c_i1 = w2c_i3 ? w2c_i1 : w2c_i2;
     w2c_j1 = (u64)(w2c_i1);
-    w2c_i2 = w2c_l28;
-    w2c_i3 = w2c_l29;
-    w2c_i4 = w2c_l28;
-    w2c_i5 = w2c_l29;
+    w2c_i2 = w2c_l29;
+    w2c_i3 = w2c_l30;
+    w2c_i4 = w2c_l29;
+    w2c_i5 = w2c_l30;
     w2c_i4 = w2c_i4 > w2c_i5;
     w2c_i2 = w2c_i4 ? w2c_i2 : w2c_i3;
     w2c_j2 = (u64)(w2c_i2);
@@ -42027,7 +41975,7 @@ static void w2c_f35(Z_dine_ffi_instance_t* instance, u64 w2c_p0, u64 w2c_p1) {
   w2c_j0 = w2c_l2;
   w2c_i0 = (u32)(w2c_j0);
   w2c_i0 = i32_load(&instance->w2c_memory, (u64)(w2c_i0) + 280u);
-  w2c_l31 = w2c_i0;
+  w2c_l32 = w2c_i0;
   w2c_j0 = 0ull;
   w2c_l8 = w2c_j0;
   w2c_j0 = 0ull;
@@ -42134,7 +42082,7 @@ static void w2c_f35(Z_dine_ffi_instance_t* instance, u64 w2c_p0, u64 w2c_p1) {
   w2c_l13 = w2c_j0;
   w2c_j0 = w2c_l4;
   w2c_i0 = !(w2c_j0);
-  w2c_l30 = w2c_i0;
+  w2c_l31 = w2c_i0;
   w2c_L110: 
     w2c_j0 = w2c_l13;
     w2c_i0 = (u32)(w2c_j0);
@@ -42150,7 +42098,7 @@ static void w2c_f35(Z_dine_ffi_instance_t* instance, u64 w2c_p0, u64 w2c_p1) {
     w2c_j2 = 120ull;
     w2c_j1 += w2c_j2;
     i64_store(&instance->w2c_memory, (u64)(w2c_i0) + 96, w2c_j1);
-    w2c_i0 = w2c_l30;
+    w2c_i0 = w2c_l31;
     if (w2c_i0) {
       w2c_j0 = w2c_l3;
       w2c_j1 = 120ull;
@@ -42163,7 +42111,7 @@ static void w2c_f35(Z_dine_ffi_instance_t* instance, u64 w2c_p0, u64 w2c_p1) {
     }
     w2c_j0 = w2c_l12;
     w2c_i0 = (u32)(w2c_j0);
-    w2c_l28 = w2c_i0;
+    w2c_l29 = w2c_i0;
     w2c_j0 = w2c_l3;
     w2c_j1 = 120ull;
     w2c_j0 += w2c_j1;
@@ -42171,13 +42119,13 @@ static void w2c_f35(Z_dine_ffi_instance_t* instance, u64 w2c_p0, u64 w2c_p1) {
     w2c_j0 = 0ull;
     w2c_l7 = w2c_j0;
     w2c_i0 = 0u;
-    w2c_l29 = w2c_i0;
+    w2c_l30 = w2c_i0;
     w2c_j0 = w2c_l10;
     w2c_l5 = w2c_j0;
     w2c_j0 = w2c_l4;
     w2c_l6 = w2c_j0;
     w2c_L113: 
-      w2c_i0 = w2c_l28;
+      w2c_i0 = w2c_l29;
       w2c_j1 = w2c_l5;
       w2c_i1 = (u32)(w2c_j1);
       w2c_i1 = i32_load(&instance->w2c_memory, (u64)(w2c_i1));
@@ -42188,7 +42136,7 @@ static void w2c_f35(Z_dine_ffi_instance_t* instance, u64 w2c_p0, u64 w2c_p1) {
         w2c_j0 += w2c_j1;
         w2c_i0 = (u32)(w2c_j0);
         w2c_i0 = i32_load(&instance->w2c_memory, (u64)(w2c_i0));
-        w2c_i1 = w2c_l28;
+        w2c_i1 = w2c_l29;
         w2c_i0 = w2c_i0 != w2c_i1;
         if (w2c_i0) {goto w2c_B114;}
       }
@@ -42219,7 +42167,7 @@ static void w2c_f35(Z_dine_ffi_instance_t* instance, u64 w2c_p0, u64 w2c_p1) {
       w2c_j1 <<= (w2c_j2 & 63);
       w2c_j0 += w2c_j1;
       w2c_i0 = (u32)(w2c_j0);
-      w2c_i1 = w2c_l29;
+      w2c_i1 = w2c_l30;
       i32_store(&instance->w2c_memory, (u64)(w2c_i0), w2c_i1);
       w2c_j0 = w2c_l3;
       w2c_i0 = (u32)(w2c_j0);
@@ -42233,10 +42181,10 @@ static void w2c_f35(Z_dine_ffi_instance_t* instance, u64 w2c_p0, u64 w2c_p1) {
       w2c_j1 = 8ull;
       w2c_j0 += w2c_j1;
       w2c_l5 = w2c_j0;
-      w2c_i0 = w2c_l29;
+      w2c_i0 = w2c_l30;
       w2c_i1 = 1u;
       w2c_i0 += w2c_i1;
-      w2c_l29 = w2c_i0;
+      w2c_l30 = w2c_i0;
       w2c_j0 = w2c_l6;
       w2c_j1 = 1ull;
       w2c_j0 -= w2c_j1;
@@ -42366,22 +42314,22 @@ static void w2c_f35(Z_dine_ffi_instance_t* instance, u64 w2c_p0, u64 w2c_p1) {
       w2c_l5 = w2c_j0;
       w2c_j0 = w2c_l13;
       w2c_i0 = (u32)(w2c_j0);
-      w2c_l29 = w2c_i0;
+      w2c_l30 = w2c_i0;
       w2c_j0 = 0ull;
       w2c_l7 = w2c_j0;
       w2c_i0 = 0u;
-      w2c_l28 = w2c_i0;
+      w2c_l29 = w2c_i0;
       w2c_L121: 
-        w2c_i0 = w2c_l29;
+        w2c_i0 = w2c_l30;
         w2c_j1 = w2c_l5;
         w2c_i1 = (u32)(w2c_j1);
         w2c_i1 = i32_load(&instance->w2c_memory, (u64)(w2c_i1));
         w2c_i0 = w2c_i0 != w2c_i1;
         if (w2c_i0) {
-          w2c_i0 = w2c_l28;
+          w2c_i0 = w2c_l29;
           w2c_i1 = 1u;
           w2c_i0 += w2c_i1;
-          w2c_l28 = w2c_i0;
+          w2c_l29 = w2c_i0;
           w2c_j0 = w2c_l5;
           w2c_j1 = 4ull;
           w2c_j0 += w2c_j1;
@@ -42416,11 +42364,11 @@ static void w2c_f35(Z_dine_ffi_instance_t* instance, u64 w2c_p0, u64 w2c_p1) {
       w2c_i0 = (u32)(w2c_j0);
       w2c_j0 = i64_load(&instance->w2c_memory, (u64)(w2c_i0));
       w2c_l5 = w2c_j0;
-      w2c_i0 = w2c_l28;
+      w2c_i0 = w2c_l29;
       w2c_j0 = (u64)(w2c_i0);
       w2c_l7 = w2c_j0;
       w2c_L123: 
-        w2c_i0 = w2c_l29;
+        w2c_i0 = w2c_l30;
         w2c_j1 = w2c_l5;
         w2c_i1 = (u32)(w2c_j1);
         w2c_i1 = i32_load(&instance->w2c_memory, (u64)(w2c_i1));
@@ -42587,7 +42535,7 @@ static void w2c_f35(Z_dine_ffi_instance_t* instance, u64 w2c_p0, u64 w2c_p1) {
   w2c_j1 = 8ull;
   w2c_j0 += w2c_j1;
   w2c_i0 = (u32)(w2c_j0);
-  w2c_i1 = w2c_l31;
+  w2c_i1 = w2c_l32;
   i32_store(&instance->w2c_memory, (u64)(w2c_i0), w2c_i1);
   w2c_j0 = w2c_l9;
   w2c_i0 = (u32)(w2c_j0);
@@ -42888,7 +42836,7 @@ static void w2c_f35(Z_dine_ffi_instance_t* instance, u64 w2c_p0, u64 w2c_p1) {
   w2c_j0 = w2c_l2;
   w2c_i0 = (u32)(w2c_j0);
   w2c_i0 = i32_load(&instance->w2c_memory, (u64)(w2c_i0) + 120u);
-  w2c_l28 = w2c_i0;
+  w2c_l29 = w2c_i0;
   w2c_j0 = w2c_l2;
   w2c_i0 = (u32)(w2c_j0);
   w2c_j0 = i64_load(&instance->w2c_memory, (u64)(w2c_i0) + 328u);
@@ -42906,7 +42854,7 @@ static void w2c_f35(Z_dine_ffi_instance_t* instance, u64 w2c_p0, u64 w2c_p1) {
   w2c_j1 = 8ull;
   w2c_j0 += w2c_j1;
   w2c_i0 = (u32)(w2c_j0);
-  w2c_i1 = w2c_l28;
+  w2c_i1 = w2c_l29;
   i32_store(&instance->w2c_memory, (u64)(w2c_i0), w2c_i1);
   w2c_j0 = w2c_p0;
   w2c_j1 = 12ull;
@@ -49914,7 +49862,7 @@ static u32 w2c_f48(Z_dine_ffi_instance_t* instance, u64 w2c_p0) {
     w2c_j3 = w2c_l3;
     w2c_j4 = 40ull;
     w2c_j3 *= w2c_j4;
-    w2c_f140(instance, w2c_j0, w2c_j1, w2c_j2, w2c_j3);
+    w2c_f144(instance, w2c_j0, w2c_j1, w2c_j2, w2c_j3);
     w2c_j0 = w2c_l1;
     w2c_i0 = (u32)(w2c_j0);
     w2c_j0 = i64_load(&instance->w2c_memory, (u64)(w2c_i0) + 16u);
@@ -49932,7 +49880,7 @@ static u32 w2c_f48(Z_dine_ffi_instance_t* instance, u64 w2c_p0) {
   w2c_j1 = w2c_l4;
   w2c_j2 = 40ull;
   w2c_j1 *= w2c_j2;
-  w2c_f136(instance, w2c_j0, w2c_j1);
+  w2c_f140(instance, w2c_j0, w2c_j1);
   w2c_j0 = w2c_l1;
   w2c_i0 = (u32)(w2c_j0);
   w2c_j0 = i64_load(&instance->w2c_memory, (u64)(w2c_i0));
@@ -51119,7 +51067,7 @@ static void w2c_f51(Z_dine_ffi_instance_t* instance, u64 w2c_p0, u64 w2c_p1, u64
       }
       w2c_j0 = w2c_l3;
       w2c_j1 = w2c_l9;
-      w2c_f136(instance, w2c_j0, w2c_j1);
+      w2c_f140(instance, w2c_j0, w2c_j1);
       w2c_j0 = 0ull;
       w2c_l7 = w2c_j0;
       w2c_i0 = 0u;
@@ -53872,7 +53820,7 @@ static u32 w2c_f53(Z_dine_ffi_instance_t* instance, u64 w2c_p0, u64 w2c_p1) {
     w2c_j1 = i64_load(&instance->w2c_memory, (u64)(w2c_i1));
     w2c_j2 = w2c_l3;
     w2c_j3 = w2c_p1;
-    w2c_f140(instance, w2c_j0, w2c_j1, w2c_j2, w2c_j3);
+    w2c_f144(instance, w2c_j0, w2c_j1, w2c_j2, w2c_j3);
     w2c_j0 = w2c_l2;
     w2c_i0 = (u32)(w2c_j0);
     w2c_j0 = i64_load(&instance->w2c_memory, (u64)(w2c_i0) + 16u);
@@ -53888,7 +53836,7 @@ static u32 w2c_f53(Z_dine_ffi_instance_t* instance, u64 w2c_p0, u64 w2c_p1) {
   }
   w2c_j0 = w2c_l2;
   w2c_j1 = w2c_l4;
-  w2c_f136(instance, w2c_j0, w2c_j1);
+  w2c_f140(instance, w2c_j0, w2c_j1);
   w2c_j0 = w2c_l2;
   w2c_i0 = (u32)(w2c_j0);
   w2c_j0 = i64_load(&instance->w2c_memory, (u64)(w2c_i0));
@@ -54927,7 +54875,7 @@ static void w2c_f56(Z_dine_ffi_instance_t* instance, u64 w2c_p0, u64 w2c_p1, u64
     w2c_j2 = 0ull;
     w2c_i3 = w2c_l7;
     w2c_j3 = (u64)(w2c_i3);
-    w2c_f143(instance, w2c_j0, w2c_j1, w2c_j2, w2c_j3);
+    w2c_f147(instance, w2c_j0, w2c_j1, w2c_j2, w2c_j3);
     w2c_i0 = 0u;
     w2c_j1 = w2c_l3;
     w2c_i1 = (u32)(w2c_j1);
@@ -57371,7 +57319,7 @@ static void w2c_f58(Z_dine_ffi_instance_t* instance, u64 w2c_p0, u64 w2c_p1, u64
       w2c_j1 = 24ull;
       w2c_j0 += w2c_j1;
       w2c_j1 = w2c_l9;
-      w2c_f136(instance, w2c_j0, w2c_j1);
+      w2c_f140(instance, w2c_j0, w2c_j1);
       w2c_j0 = w2c_l6;
       w2c_i0 = (u32)(w2c_j0);
       w2c_j0 = i64_load(&instance->w2c_memory, (u64)(w2c_i0) + 24u);
@@ -59078,7 +59026,7 @@ static void w2c_f59(Z_dine_ffi_instance_t* instance, u64 w2c_p0, u64 w2c_p1, u64
     w2c_j4 = I64_CLZ(w2c_j4);
     w2c_l9 = w2c_j4;
     w2c_j3 <<= (w2c_j4 & 63);
-    w2c_f143(instance, w2c_j0, w2c_j1, w2c_j2, w2c_j3);
+    w2c_f147(instance, w2c_j0, w2c_j1, w2c_j2, w2c_j3);
     w2c_j0 = w2c_l16;
     w2c_j1 = 19ull;
     w2c_i0 = w2c_j0 > w2c_j1;
@@ -59377,7 +59325,7 @@ static void w2c_f59(Z_dine_ffi_instance_t* instance, u64 w2c_p0, u64 w2c_p1, u64
               w2c_j1 = i64_load(&instance->w2c_memory, (u64)(w2c_i1));
               w2c_j2 = 0ull;
               w2c_j3 = w2c_l12;
-              w2c_f143(instance, w2c_j0, w2c_j1, w2c_j2, w2c_j3);
+              w2c_f147(instance, w2c_j0, w2c_j1, w2c_j2, w2c_j3);
               w2c_j0 = w2c_p1;
               w2c_i0 = (u32)(w2c_j0);
               w2c_j1 = w2c_l4;
@@ -59399,7 +59347,7 @@ static void w2c_f59(Z_dine_ffi_instance_t* instance, u64 w2c_p0, u64 w2c_p1, u64
               w2c_j1 = i64_load(&instance->w2c_memory, (u64)(w2c_i1));
               w2c_j2 = 0ull;
               w2c_j3 = w2c_l12;
-              w2c_f143(instance, w2c_j0, w2c_j1, w2c_j2, w2c_j3);
+              w2c_f147(instance, w2c_j0, w2c_j1, w2c_j2, w2c_j3);
               w2c_j0 = w2c_l17;
               w2c_i0 = (u32)(w2c_j0);
               w2c_j1 = w2c_l4;
@@ -59456,7 +59404,7 @@ static void w2c_f59(Z_dine_ffi_instance_t* instance, u64 w2c_p0, u64 w2c_p1, u64
           w2c_j1 = i64_load(&instance->w2c_memory, (u64)(w2c_i1));
           w2c_j2 = 0ull;
           w2c_j3 = w2c_l12;
-          w2c_f143(instance, w2c_j0, w2c_j1, w2c_j2, w2c_j3);
+          w2c_f147(instance, w2c_j0, w2c_j1, w2c_j2, w2c_j3);
           w2c_j0 = w2c_p1;
           w2c_i0 = (u32)(w2c_j0);
           w2c_j1 = w2c_l4;
@@ -59837,7 +59785,7 @@ static void w2c_f59(Z_dine_ffi_instance_t* instance, u64 w2c_p0, u64 w2c_p1, u64
             w2c_j1 = i64_load(&instance->w2c_memory, (u64)(w2c_i1));
             w2c_j2 = 0ull;
             w2c_j3 = w2c_l5;
-            w2c_f143(instance, w2c_j0, w2c_j1, w2c_j2, w2c_j3);
+            w2c_f147(instance, w2c_j0, w2c_j1, w2c_j2, w2c_j3);
             w2c_j0 = w2c_p1;
             w2c_i0 = (u32)(w2c_j0);
             w2c_j1 = w2c_l4;
@@ -59859,7 +59807,7 @@ static void w2c_f59(Z_dine_ffi_instance_t* instance, u64 w2c_p0, u64 w2c_p1, u64
             w2c_j1 = i64_load(&instance->w2c_memory, (u64)(w2c_i1));
             w2c_j2 = 0ull;
             w2c_j3 = w2c_l5;
-            w2c_f143(instance, w2c_j0, w2c_j1, w2c_j2, w2c_j3);
+            w2c_f147(instance, w2c_j0, w2c_j1, w2c_j2, w2c_j3);
             w2c_j0 = w2c_l8;
             w2c_i0 = (u32)(w2c_j0);
             w2c_j1 = w2c_l4;
@@ -59914,7 +59862,7 @@ static void w2c_f59(Z_dine_ffi_instance_t* instance, u64 w2c_p0, u64 w2c_p1, u64
         w2c_j1 = i64_load(&instance->w2c_memory, (u64)(w2c_i1));
         w2c_j2 = 0ull;
         w2c_j3 = w2c_l5;
-        w2c_f143(instance, w2c_j0, w2c_j1, w2c_j2, w2c_j3);
+        w2c_f147(instance, w2c_j0, w2c_j1, w2c_j2, w2c_j3);
         w2c_j0 = w2c_p1;
         w2c_i0 = (u32)(w2c_j0);
         w2c_j1 = w2c_l4;
@@ -60040,7 +59988,7 @@ static void w2c_f59(Z_dine_ffi_instance_t* instance, u64 w2c_p0, u64 w2c_p1, u64
     w2c_j4 = I64_CLZ(w2c_j4);
     w2c_l5 = w2c_j4;
     w2c_j3 <<= (w2c_j4 & 63);
-    w2c_f143(instance, w2c_j0, w2c_j1, w2c_j2, w2c_j3);
+    w2c_f147(instance, w2c_j0, w2c_j1, w2c_j2, w2c_j3);
     w2c_j0 = 512ull;
     w2c_j1 = w2c_l11;
     w2c_i1 = (u32)(w2c_j1);
@@ -60155,7 +60103,7 @@ static void w2c_f59(Z_dine_ffi_instance_t* instance, u64 w2c_p0, u64 w2c_p1, u64
   w2c_j4 = I64_CLZ(w2c_j4);
   w2c_l5 = w2c_j4;
   w2c_j3 <<= (w2c_j4 & 63);
-  w2c_f143(instance, w2c_j0, w2c_j1, w2c_j2, w2c_j3);
+  w2c_f147(instance, w2c_j0, w2c_j1, w2c_j2, w2c_j3);
   w2c_j0 = w2c_l11;
   w2c_i0 = (u32)(w2c_j0);
   w2c_j0 = i64_load(&instance->w2c_memory, (u64)(w2c_i0) + 8u);
@@ -60287,7 +60235,7 @@ static void w2c_f59(Z_dine_ffi_instance_t* instance, u64 w2c_p0, u64 w2c_p1, u64
     w2c_j1 = w2c_p2;
     w2c_j2 = w2c_l5;
     w2c_j3 = 10ull;
-    w2c_f143(instance, w2c_j0, w2c_j1, w2c_j2, w2c_j3);
+    w2c_f147(instance, w2c_j0, w2c_j1, w2c_j2, w2c_j3);
     w2c_j0 = w2c_l11;
     w2c_i0 = (u32)(w2c_j0);
     w2c_j0 = i64_load(&instance->w2c_memory, (u64)(w2c_i0) + 40u);
@@ -60601,7 +60549,7 @@ static void w2c_f60(Z_dine_ffi_instance_t* instance, u64 w2c_p0, u64 w2c_p1, u64
   w2c_l10 = w2c_j4;
   w2c_j3 <<= (w2c_j4 & 63);
   w2c_p1 = w2c_j3;
-  w2c_f143(instance, w2c_j0, w2c_j1, w2c_j2, w2c_j3);
+  w2c_f147(instance, w2c_j0, w2c_j1, w2c_j2, w2c_j3);
   w2c_j0 = w2c_l4;
   w2c_j1 = 48ull;
   w2c_j0 += w2c_j1;
@@ -60610,7 +60558,7 @@ static void w2c_f60(Z_dine_ffi_instance_t* instance, u64 w2c_p0, u64 w2c_p1, u64
   w2c_j1 = i64_load(&instance->w2c_memory, (u64)(w2c_i1) + 1048752u);
   w2c_j2 = 0ull;
   w2c_j3 = w2c_p1;
-  w2c_f143(instance, w2c_j0, w2c_j1, w2c_j2, w2c_j3);
+  w2c_f147(instance, w2c_j0, w2c_j1, w2c_j2, w2c_j3);
   w2c_j0 = 0ull;
   w2c_j1 = 0ull;
   w2c_j2 = w2c_l10;
@@ -60741,14 +60689,14 @@ static void w2c_f60(Z_dine_ffi_instance_t* instance, u64 w2c_p0, u64 w2c_p1, u64
   w2c_j1 = 18446744073709551615ull;
   w2c_j2 = 18446744073709551615ull;
   w2c_i3 = w2c_l13;
-  w2c_f144(instance, w2c_j0, w2c_j1, w2c_j2, w2c_i3);
+  w2c_f148(instance, w2c_j0, w2c_j1, w2c_j2, w2c_i3);
   w2c_j0 = w2c_l4;
   w2c_j1 = 1ull;
   w2c_j2 = 0ull;
   w2c_i3 = w2c_l13;
   w2c_i4 = 1u;
   w2c_i3 -= w2c_i4;
-  w2c_f144(instance, w2c_j0, w2c_j1, w2c_j2, w2c_i3);
+  w2c_f148(instance, w2c_j0, w2c_j1, w2c_j2, w2c_i3);
   w2c_j0 = w2c_l4;
   w2c_i0 = (u32)(w2c_j0);
   w2c_j0 = i64_load(&instance->w2c_memory, (u64)(w2c_i0) + 32u);
@@ -61077,7 +61025,7 @@ static u64 w2c_f61(Z_dine_ffi_instance_t* instance, u64 w2c_p0, u32 w2c_p1, u64 
       w2c_j1 = i64_load(&instance->w2c_memory, (u64)(w2c_i1));
       w2c_j2 = 0ull;
       w2c_i3 = w2c_l15;
-      w2c_f144(instance, w2c_j0, w2c_j1, w2c_j2, w2c_i3);
+      w2c_f148(instance, w2c_j0, w2c_j1, w2c_j2, w2c_i3);
       w2c_j0 = w2c_p0;
       w2c_i0 = (u32)(w2c_j0);
       w2c_j1 = w2c_l6;
@@ -61099,7 +61047,7 @@ static u64 w2c_f61(Z_dine_ffi_instance_t* instance, u64 w2c_p0, u32 w2c_p1, u64 
       w2c_j1 = i64_load(&instance->w2c_memory, (u64)(w2c_i1));
       w2c_j2 = 0ull;
       w2c_i3 = w2c_l15;
-      w2c_f144(instance, w2c_j0, w2c_j1, w2c_j2, w2c_i3);
+      w2c_f148(instance, w2c_j0, w2c_j1, w2c_j2, w2c_i3);
       w2c_j0 = w2c_l11;
       w2c_i0 = (u32)(w2c_j0);
       w2c_j1 = w2c_l6;
@@ -61157,7 +61105,7 @@ static u64 w2c_f61(Z_dine_ffi_instance_t* instance, u64 w2c_p0, u32 w2c_p1, u64 
   w2c_j2 = 0ull;
   w2c_j3 = w2c_l10;
   w2c_i3 = (u32)(w2c_j3);
-  w2c_f144(instance, w2c_j0, w2c_j1, w2c_j2, w2c_i3);
+  w2c_f148(instance, w2c_j0, w2c_j1, w2c_j2, w2c_i3);
   w2c_j0 = w2c_p0;
   w2c_i0 = (u32)(w2c_j0);
   w2c_j1 = w2c_l6;
@@ -61400,7 +61348,7 @@ static u64 w2c_f61(Z_dine_ffi_instance_t* instance, u64 w2c_p0, u32 w2c_p1, u64 
       w2c_j1 = i64_load(&instance->w2c_memory, (u64)(w2c_i1));
       w2c_j2 = 0ull;
       w2c_i3 = w2c_l15;
-      w2c_f144(instance, w2c_j0, w2c_j1, w2c_j2, w2c_i3);
+      w2c_f148(instance, w2c_j0, w2c_j1, w2c_j2, w2c_i3);
       w2c_j0 = w2c_p0;
       w2c_i0 = (u32)(w2c_j0);
       w2c_j1 = w2c_l6;
@@ -61422,7 +61370,7 @@ static u64 w2c_f61(Z_dine_ffi_instance_t* instance, u64 w2c_p0, u32 w2c_p1, u64 
       w2c_j1 = i64_load(&instance->w2c_memory, (u64)(w2c_i1));
       w2c_j2 = 0ull;
       w2c_i3 = w2c_l15;
-      w2c_f144(instance, w2c_j0, w2c_j1, w2c_j2, w2c_i3);
+      w2c_f148(instance, w2c_j0, w2c_j1, w2c_j2, w2c_i3);
       w2c_j0 = w2c_l11;
       w2c_i0 = (u32)(w2c_j0);
       w2c_j1 = w2c_l6;
@@ -61478,7 +61426,7 @@ static u64 w2c_f61(Z_dine_ffi_instance_t* instance, u64 w2c_p0, u32 w2c_p1, u64 
   w2c_j2 = 0ull;
   w2c_j3 = w2c_l10;
   w2c_i3 = (u32)(w2c_j3);
-  w2c_f144(instance, w2c_j0, w2c_j1, w2c_j2, w2c_i3);
+  w2c_f148(instance, w2c_j0, w2c_j1, w2c_j2, w2c_i3);
   w2c_j0 = w2c_p0;
   w2c_i0 = (u32)(w2c_j0);
   w2c_j1 = w2c_l6;
@@ -61688,7 +61636,7 @@ static void w2c_f62(Z_dine_ffi_instance_t* instance, u64 w2c_p0, u64 w2c_p1) {
           w2c_j1 = i64_load(&instance->w2c_memory, (u64)(w2c_i1));
           w2c_j2 = 0ull;
           w2c_j3 = 10000000000000000000ull;
-          w2c_f143(instance, w2c_j0, w2c_j1, w2c_j2, w2c_j3);
+          w2c_f147(instance, w2c_j0, w2c_j1, w2c_j2, w2c_j3);
           w2c_j0 = w2c_l4;
           w2c_i0 = (u32)(w2c_j0);
           w2c_j1 = w2c_l3;
@@ -61710,7 +61658,7 @@ static void w2c_f62(Z_dine_ffi_instance_t* instance, u64 w2c_p0, u64 w2c_p1) {
           w2c_j1 = i64_load(&instance->w2c_memory, (u64)(w2c_i1));
           w2c_j2 = 0ull;
           w2c_j3 = 10000000000000000000ull;
-          w2c_f143(instance, w2c_j0, w2c_j1, w2c_j2, w2c_j3);
+          w2c_f147(instance, w2c_j0, w2c_j1, w2c_j2, w2c_j3);
           w2c_j0 = w2c_l10;
           w2c_i0 = (u32)(w2c_j0);
           w2c_j1 = w2c_l3;
@@ -61765,7 +61713,7 @@ static void w2c_f62(Z_dine_ffi_instance_t* instance, u64 w2c_p0, u64 w2c_p1) {
       w2c_j1 = i64_load(&instance->w2c_memory, (u64)(w2c_i1));
       w2c_j2 = 0ull;
       w2c_j3 = 10000000000000000000ull;
-      w2c_f143(instance, w2c_j0, w2c_j1, w2c_j2, w2c_j3);
+      w2c_f147(instance, w2c_j0, w2c_j1, w2c_j2, w2c_j3);
       w2c_j0 = w2c_l4;
       w2c_i0 = (u32)(w2c_j0);
       w2c_j1 = w2c_l3;
@@ -61853,7 +61801,7 @@ static void w2c_f62(Z_dine_ffi_instance_t* instance, u64 w2c_p0, u64 w2c_p1) {
       w2c_j1 = i64_load(&instance->w2c_memory, (u64)(w2c_i1));
       w2c_j2 = 0ull;
       w2c_j3 = w2c_l8;
-      w2c_f143(instance, w2c_j0, w2c_j1, w2c_j2, w2c_j3);
+      w2c_f147(instance, w2c_j0, w2c_j1, w2c_j2, w2c_j3);
       w2c_j0 = w2c_l4;
       w2c_i0 = (u32)(w2c_j0);
       w2c_j1 = w2c_l3;
@@ -61875,7 +61823,7 @@ static void w2c_f62(Z_dine_ffi_instance_t* instance, u64 w2c_p0, u64 w2c_p1) {
       w2c_j1 = i64_load(&instance->w2c_memory, (u64)(w2c_i1));
       w2c_j2 = 0ull;
       w2c_j3 = w2c_l8;
-      w2c_f143(instance, w2c_j0, w2c_j1, w2c_j2, w2c_j3);
+      w2c_f147(instance, w2c_j0, w2c_j1, w2c_j2, w2c_j3);
       w2c_j0 = w2c_l11;
       w2c_i0 = (u32)(w2c_j0);
       w2c_j1 = w2c_l3;
@@ -61928,7 +61876,7 @@ static void w2c_f62(Z_dine_ffi_instance_t* instance, u64 w2c_p0, u64 w2c_p1) {
   w2c_j1 = i64_load(&instance->w2c_memory, (u64)(w2c_i1));
   w2c_j2 = 0ull;
   w2c_j3 = w2c_l8;
-  w2c_f143(instance, w2c_j0, w2c_j1, w2c_j2, w2c_j3);
+  w2c_f147(instance, w2c_j0, w2c_j1, w2c_j2, w2c_j3);
   w2c_j0 = w2c_l4;
   w2c_i0 = (u32)(w2c_j0);
   w2c_j1 = w2c_l3;
@@ -62290,7 +62238,7 @@ static u32 w2c_f64(Z_dine_ffi_instance_t* instance, u64 w2c_p0, u64 w2c_p1, u64 
   w2c_j1 = 48ull;
   w2c_j0 += w2c_j1;
   w2c_j1 = 1208ull;
-  w2c_f136(instance, w2c_j0, w2c_j1);
+  w2c_f140(instance, w2c_j0, w2c_j1);
   w2c_j0 = w2c_l3;
   w2c_i0 = (u32)(w2c_j0);
   w2c_j0 = i64_load(&instance->w2c_memory, (u64)(w2c_i0) + 48u);
@@ -62534,7 +62482,7 @@ static u32 w2c_f64(Z_dine_ffi_instance_t* instance, u64 w2c_p0, u64 w2c_p1, u64 
     w2c_j1 = 32ull;
     w2c_j0 += w2c_j1;
     w2c_j1 = 1336ull;
-    w2c_f136(instance, w2c_j0, w2c_j1);
+    w2c_f140(instance, w2c_j0, w2c_j1);
     w2c_j0 = w2c_l3;
     w2c_i0 = (u32)(w2c_j0);
     w2c_j0 = i64_load(&instance->w2c_memory, (u64)(w2c_i0) + 32u);
@@ -62808,7 +62756,7 @@ static u32 w2c_f64(Z_dine_ffi_instance_t* instance, u64 w2c_p0, u64 w2c_p1, u64 
       if (w2c_i0) {
         w2c_j0 = w2c_l3;
         w2c_j1 = 1208ull;
-        w2c_f136(instance, w2c_j0, w2c_j1);
+        w2c_f140(instance, w2c_j0, w2c_j1);
         w2c_j0 = w2c_l3;
         w2c_i0 = (u32)(w2c_j0);
         w2c_j0 = i64_load(&instance->w2c_memory, (u64)(w2c_i0));
@@ -62826,7 +62774,7 @@ static u32 w2c_f64(Z_dine_ffi_instance_t* instance, u64 w2c_p0, u64 w2c_p1, u64 
       w2c_j1 = 16ull;
       w2c_j0 += w2c_j1;
       w2c_j1 = 1336ull;
-      w2c_f136(instance, w2c_j0, w2c_j1);
+      w2c_f140(instance, w2c_j0, w2c_j1);
       w2c_j0 = w2c_l3;
       w2c_i0 = (u32)(w2c_j0);
       w2c_j0 = i64_load(&instance->w2c_memory, (u64)(w2c_i0) + 16u);
@@ -70472,7 +70420,7 @@ static u32 w2c_f72(Z_dine_ffi_instance_t* instance, u64 w2c_p0) {
     w2c_j3 = w2c_l3;
     w2c_j4 = 3ull;
     w2c_j3 <<= (w2c_j4 & 63);
-    w2c_f140(instance, w2c_j0, w2c_j1, w2c_j2, w2c_j3);
+    w2c_f144(instance, w2c_j0, w2c_j1, w2c_j2, w2c_j3);
     w2c_j0 = w2c_l1;
     w2c_i0 = (u32)(w2c_j0);
     w2c_j0 = i64_load(&instance->w2c_memory, (u64)(w2c_i0) + 16u);
@@ -70490,7 +70438,7 @@ static u32 w2c_f72(Z_dine_ffi_instance_t* instance, u64 w2c_p0) {
   w2c_j1 = w2c_l4;
   w2c_j2 = 3ull;
   w2c_j1 <<= (w2c_j2 & 63);
-  w2c_f136(instance, w2c_j0, w2c_j1);
+  w2c_f140(instance, w2c_j0, w2c_j1);
   w2c_j0 = w2c_l1;
   w2c_i0 = (u32)(w2c_j0);
   w2c_j0 = i64_load(&instance->w2c_memory, (u64)(w2c_i0));
@@ -70594,7 +70542,7 @@ static u32 w2c_f73(Z_dine_ffi_instance_t* instance, u64 w2c_p0) {
     w2c_j3 = w2c_l3;
     w2c_j4 = 2ull;
     w2c_j3 <<= (w2c_j4 & 63);
-    w2c_f140(instance, w2c_j0, w2c_j1, w2c_j2, w2c_j3);
+    w2c_f144(instance, w2c_j0, w2c_j1, w2c_j2, w2c_j3);
     w2c_j0 = w2c_l1;
     w2c_i0 = (u32)(w2c_j0);
     w2c_j0 = i64_load(&instance->w2c_memory, (u64)(w2c_i0) + 16u);
@@ -70612,7 +70560,7 @@ static u32 w2c_f73(Z_dine_ffi_instance_t* instance, u64 w2c_p0) {
   w2c_j1 = w2c_l4;
   w2c_j2 = 2ull;
   w2c_j1 <<= (w2c_j2 & 63);
-  w2c_f136(instance, w2c_j0, w2c_j1);
+  w2c_f140(instance, w2c_j0, w2c_j1);
   w2c_j0 = w2c_l1;
   w2c_i0 = (u32)(w2c_j0);
   w2c_j0 = i64_load(&instance->w2c_memory, (u64)(w2c_i0));
@@ -70648,7 +70596,700 @@ static u32 w2c_f73(Z_dine_ffi_instance_t* instance, u64 w2c_p0) {
   return w2c_i0;
 }
 
-static void w2c_f74(Z_dine_ffi_instance_t* instance, u64 w2c_p0, u64 w2c_p1) {
+static u64 w2c_f74(Z_dine_ffi_instance_t* instance, u64 w2c_p0, u64 w2c_p1, u64 w2c_p2, u64 w2c_p3) {
+  u32 w2c_l8 = 0, w2c_l9 = 0;
+  u64 w2c_l4 = 0, w2c_l5 = 0, w2c_l6 = 0, w2c_l7 = 0;
+  FUNC_PROLOGUE;
+  u32 w2c_i0, w2c_i1, w2c_i2;
+  u64 w2c_j0, w2c_j1, w2c_j2, w2c_j3, w2c_j4;
+  w2c_j0 = instance->w2c_g0;
+  w2c_j1 = 32ull;
+  w2c_j0 -= w2c_j1;
+  w2c_l5 = w2c_j0;
+  instance->w2c_g0 = w2c_j0;
+  w2c_j0 = 18446744073709551612ull;
+  w2c_l4 = w2c_j0;
+  w2c_j0 = w2c_p1;
+  w2c_i0 = (u32)(w2c_j0);
+  w2c_i0 = i32_load(&instance->w2c_memory, (u64)(w2c_i0));
+  w2c_l8 = w2c_i0;
+  w2c_j1 = w2c_p0;
+  w2c_j2 = 16ull;
+  w2c_j1 += w2c_j2;
+  w2c_l6 = w2c_j1;
+  w2c_i1 = (u32)(w2c_j1);
+  w2c_i1 = i32_load(&instance->w2c_memory, (u64)(w2c_i1));
+  w2c_i0 = w2c_i0 != w2c_i1;
+  if (w2c_i0) {goto w2c_B1;}
+  w2c_j0 = w2c_p1;
+  w2c_i0 = (u32)(w2c_j0);
+  w2c_i0 = i32_load(&instance->w2c_memory, (u64)(w2c_i0) + 8u);
+  w2c_l9 = w2c_i0;
+  w2c_j0 = w2c_p1;
+  w2c_i0 = (u32)(w2c_j0);
+  w2c_i0 = i32_load(&instance->w2c_memory, (u64)(w2c_i0) + 4u);
+  w2c_i1 = 1u;
+  w2c_i0 -= w2c_i1;
+  switch (w2c_i0) {
+    case 0: goto w2c_B6;
+    case 1: goto w2c_B8;
+    case 2: goto w2c_B9;
+    case 3: goto w2c_B7;
+    case 4: goto w2c_B10;
+    case 5: goto w2c_B5;
+    case 6: goto w2c_B4;
+    case 7: goto w2c_B3;
+    default: goto w2c_B1;
+  }
+  w2c_B10:;
+  w2c_j0 = w2c_p0;
+  w2c_j1 = 208ull;
+  w2c_j0 += w2c_j1;
+  w2c_i0 = (u32)(w2c_j0);
+  w2c_i0 = i32_load8_u(&instance->w2c_memory, (u64)(w2c_i0));
+  w2c_i1 = 1u;
+  w2c_i0 = w2c_i0 == w2c_i1;
+  if (w2c_i0) {
+    w2c_j0 = 18446744073709551609ull;
+    w2c_l4 = w2c_j0;
+    goto w2c_B1;
+  }
+  w2c_j0 = 18446744073709551613ull;
+  w2c_l4 = w2c_j0;
+  w2c_j0 = w2c_p0;
+  w2c_j1 = 49ull;
+  w2c_j0 += w2c_j1;
+  w2c_i0 = (u32)(w2c_j0);
+  w2c_i0 = i32_load8_u(&instance->w2c_memory, (u64)(w2c_i0));
+  if (w2c_i0) {goto w2c_B1;}
+  w2c_j0 = w2c_p0;
+  w2c_j1 = 52ull;
+  w2c_j0 += w2c_j1;
+  w2c_i0 = (u32)(w2c_j0);
+  w2c_i0 = i32_load(&instance->w2c_memory, (u64)(w2c_i0));
+  w2c_j1 = w2c_p0;
+  w2c_j2 = 20ull;
+  w2c_j1 += w2c_j2;
+  w2c_i1 = (u32)(w2c_j1);
+  w2c_i1 = i32_load(&instance->w2c_memory, (u64)(w2c_i1));
+  w2c_i0 = w2c_i0 >= w2c_i1;
+  if (w2c_i0) {goto w2c_B1;}
+  w2c_j0 = w2c_p0;
+  w2c_j1 = 56ull;
+  w2c_j0 += w2c_j1;
+  w2c_i0 = (u32)(w2c_j0);
+  w2c_i0 = i32_load8_u(&instance->w2c_memory, (u64)(w2c_i0));
+  if (w2c_i0) {goto w2c_B1;}
+  w2c_j0 = w2c_p0;
+  w2c_j1 = 57ull;
+  w2c_j0 += w2c_j1;
+  w2c_i0 = (u32)(w2c_j0);
+  w2c_i0 = i32_load8_u(&instance->w2c_memory, (u64)(w2c_i0));
+  if (w2c_i0) {goto w2c_B1;}
+  w2c_j0 = w2c_p0;
+  w2c_j1 = 49ull;
+  w2c_j0 += w2c_j1;
+  w2c_i0 = (u32)(w2c_j0);
+  w2c_i1 = 1u;
+  i32_store8(&instance->w2c_memory, (u64)(w2c_i0), w2c_i1);
+  w2c_j0 = 0ull;
+  w2c_l4 = w2c_j0;
+  goto w2c_B1;
+  w2c_B9:;
+  w2c_j0 = w2c_l5;
+  w2c_i0 = (u32)(w2c_j0);
+  w2c_j1 = 0ull;
+  i64_store(&instance->w2c_memory, (u64)(w2c_i0) + 24, w2c_j1);
+  w2c_j0 = w2c_l5;
+  w2c_i0 = (u32)(w2c_j0);
+  w2c_j1 = 0ull;
+  i64_store(&instance->w2c_memory, (u64)(w2c_i0) + 16, w2c_j1);
+  w2c_j0 = w2c_l5;
+  w2c_i0 = (u32)(w2c_j0);
+  w2c_j1 = 0ull;
+  i64_store(&instance->w2c_memory, (u64)(w2c_i0) + 8, w2c_j1);
+  w2c_j0 = w2c_l5;
+  w2c_i0 = (u32)(w2c_j0);
+  w2c_j1 = 0ull;
+  i64_store(&instance->w2c_memory, (u64)(w2c_i0), w2c_j1);
+  w2c_j0 = w2c_p0;
+  w2c_j1 = 208ull;
+  w2c_j0 += w2c_j1;
+  w2c_i0 = (u32)(w2c_j0);
+  w2c_i0 = i32_load8_u(&instance->w2c_memory, (u64)(w2c_i0));
+  w2c_i1 = 1u;
+  w2c_i0 = w2c_i0 == w2c_i1;
+  if (w2c_i0) {
+    w2c_j0 = 18446744073709551609ull;
+    w2c_l4 = w2c_j0;
+    goto w2c_B1;
+  }
+  w2c_j0 = 18446744073709551613ull;
+  w2c_l4 = w2c_j0;
+  w2c_j0 = w2c_p0;
+  w2c_j1 = 49ull;
+  w2c_j0 += w2c_j1;
+  w2c_i0 = (u32)(w2c_j0);
+  w2c_i0 = i32_load8_u(&instance->w2c_memory, (u64)(w2c_i0));
+  w2c_i1 = 1u;
+  w2c_i0 = w2c_i0 != w2c_i1;
+  if (w2c_i0) {goto w2c_B1;}
+  w2c_j0 = w2c_p0;
+  w2c_j1 = 88ull;
+  w2c_j0 += w2c_j1;
+  w2c_i0 = (u32)(w2c_j0);
+  w2c_j0 = i64_load(&instance->w2c_memory, (u64)(w2c_i0));
+  w2c_j1 = 0ull;
+  w2c_i0 = w2c_j0 != w2c_j1;
+  if (w2c_i0) {goto w2c_B1;}
+  w2c_j0 = w2c_p0;
+  w2c_j1 = 104ull;
+  w2c_j0 += w2c_j1;
+  w2c_i0 = (u32)(w2c_j0);
+  w2c_j0 = i64_load(&instance->w2c_memory, (u64)(w2c_i0));
+  w2c_j1 = w2c_p0;
+  w2c_j2 = 96ull;
+  w2c_j1 += w2c_j2;
+  w2c_i1 = (u32)(w2c_j1);
+  w2c_j1 = i64_load(&instance->w2c_memory, (u64)(w2c_i1));
+  w2c_j0 &= w2c_j1;
+  w2c_j1 = 0ull;
+  w2c_i0 = w2c_j0 != w2c_j1;
+  if (w2c_i0) {goto w2c_B1;}
+  w2c_j0 = w2c_l5;
+  w2c_j1 = w2c_l6;
+  w2c_f75(instance, w2c_j0, w2c_j1);
+  w2c_j0 = w2c_p0;
+  w2c_j1 = 208ull;
+  w2c_j0 += w2c_j1;
+  w2c_p1 = w2c_j0;
+  w2c_i0 = (u32)(w2c_j0);
+  w2c_i0 = i32_load8_u(&instance->w2c_memory, (u64)(w2c_i0));
+  w2c_l8 = w2c_i0;
+  w2c_j0 = w2c_p1;
+  w2c_i0 = (u32)(w2c_j0);
+  w2c_j1 = 1ull;
+  i64_store(&instance->w2c_memory, (u64)(w2c_i0), w2c_j1);
+  w2c_j0 = w2c_p0;
+  w2c_j1 = 216ull;
+  w2c_j0 += w2c_j1;
+  w2c_i0 = (u32)(w2c_j0);
+  w2c_j1 = w2c_l5;
+  w2c_i1 = (u32)(w2c_j1);
+  w2c_j1 = i64_load(&instance->w2c_memory, (u64)(w2c_i1));
+  i64_store(&instance->w2c_memory, (u64)(w2c_i0), w2c_j1);
+  w2c_j0 = w2c_p0;
+  w2c_j1 = 224ull;
+  w2c_j0 += w2c_j1;
+  w2c_i0 = (u32)(w2c_j0);
+  w2c_j1 = w2c_l5;
+  w2c_i1 = (u32)(w2c_j1);
+  w2c_j1 = i64_load(&instance->w2c_memory, (u64)(w2c_i1) + 8u);
+  i64_store(&instance->w2c_memory, (u64)(w2c_i0), w2c_j1);
+  w2c_j0 = w2c_p0;
+  w2c_j1 = 232ull;
+  w2c_j0 += w2c_j1;
+  w2c_i0 = (u32)(w2c_j0);
+  w2c_j1 = w2c_l5;
+  w2c_i1 = (u32)(w2c_j1);
+  w2c_j1 = i64_load(&instance->w2c_memory, (u64)(w2c_i1) + 16u);
+  i64_store(&instance->w2c_memory, (u64)(w2c_i0), w2c_j1);
+  w2c_j0 = w2c_p0;
+  w2c_j1 = 240ull;
+  w2c_j0 += w2c_j1;
+  w2c_i0 = (u32)(w2c_j0);
+  w2c_j1 = w2c_l5;
+  w2c_i1 = (u32)(w2c_j1);
+  w2c_j1 = i64_load(&instance->w2c_memory, (u64)(w2c_i1) + 24u);
+  i64_store(&instance->w2c_memory, (u64)(w2c_i0), w2c_j1);
+  w2c_i0 = w2c_l8;
+  w2c_i1 = 1u;
+  w2c_i0 = w2c_i0 == w2c_i1;
+  if (w2c_i0) {goto w2c_B0;}
+  w2c_j0 = 0ull;
+  w2c_l4 = w2c_j0;
+  goto w2c_B1;
+  w2c_B8:;
+  w2c_j0 = w2c_p0;
+  w2c_j1 = 216ull;
+  w2c_j0 += w2c_j1;
+  w2c_p1 = w2c_j0;
+  w2c_i0 = (u32)(w2c_j0);
+  w2c_j0 = i64_load(&instance->w2c_memory, (u64)(w2c_i0));
+  w2c_l4 = w2c_j0;
+  w2c_j0 = w2c_p1;
+  w2c_i0 = (u32)(w2c_j0);
+  w2c_j1 = 0ull;
+  i64_store(&instance->w2c_memory, (u64)(w2c_i0), w2c_j1);
+  w2c_j0 = w2c_p0;
+  w2c_j1 = 224ull;
+  w2c_j0 += w2c_j1;
+  w2c_p1 = w2c_j0;
+  w2c_i0 = (u32)(w2c_j0);
+  w2c_j0 = i64_load(&instance->w2c_memory, (u64)(w2c_i0));
+  w2c_p3 = w2c_j0;
+  w2c_j0 = w2c_p1;
+  w2c_i0 = (u32)(w2c_j0);
+  w2c_j1 = 0ull;
+  i64_store(&instance->w2c_memory, (u64)(w2c_i0), w2c_j1);
+  w2c_j0 = w2c_p0;
+  w2c_j1 = 232ull;
+  w2c_j0 += w2c_j1;
+  w2c_p1 = w2c_j0;
+  w2c_i0 = (u32)(w2c_j0);
+  w2c_j0 = i64_load(&instance->w2c_memory, (u64)(w2c_i0));
+  w2c_p2 = w2c_j0;
+  w2c_j0 = w2c_p1;
+  w2c_i0 = (u32)(w2c_j0);
+  w2c_j1 = 0ull;
+  i64_store(&instance->w2c_memory, (u64)(w2c_i0), w2c_j1);
+  w2c_j0 = w2c_p0;
+  w2c_j1 = 240ull;
+  w2c_j0 += w2c_j1;
+  w2c_p1 = w2c_j0;
+  w2c_i0 = (u32)(w2c_j0);
+  w2c_j0 = i64_load(&instance->w2c_memory, (u64)(w2c_i0));
+  w2c_l7 = w2c_j0;
+  w2c_j0 = w2c_p1;
+  w2c_i0 = (u32)(w2c_j0);
+  w2c_j1 = 0ull;
+  i64_store(&instance->w2c_memory, (u64)(w2c_i0), w2c_j1);
+  w2c_j0 = w2c_p0;
+  w2c_j1 = 208ull;
+  w2c_j0 += w2c_j1;
+  w2c_p1 = w2c_j0;
+  w2c_i0 = (u32)(w2c_j0);
+  w2c_i0 = i32_load8_u(&instance->w2c_memory, (u64)(w2c_i0));
+  w2c_l8 = w2c_i0;
+  w2c_j0 = w2c_p1;
+  w2c_i0 = (u32)(w2c_j0);
+  w2c_j1 = 0ull;
+  i64_store(&instance->w2c_memory, (u64)(w2c_i0), w2c_j1);
+  w2c_j0 = w2c_l5;
+  w2c_i0 = (u32)(w2c_j0);
+  w2c_j1 = w2c_l4;
+  i64_store(&instance->w2c_memory, (u64)(w2c_i0), w2c_j1);
+  w2c_j0 = w2c_l5;
+  w2c_i0 = (u32)(w2c_j0);
+  w2c_j1 = w2c_p3;
+  i64_store(&instance->w2c_memory, (u64)(w2c_i0) + 8, w2c_j1);
+  w2c_j0 = w2c_l5;
+  w2c_i0 = (u32)(w2c_j0);
+  w2c_j1 = w2c_p2;
+  i64_store(&instance->w2c_memory, (u64)(w2c_i0) + 16, w2c_j1);
+  w2c_j0 = w2c_l5;
+  w2c_i0 = (u32)(w2c_j0);
+  w2c_j1 = w2c_l7;
+  i64_store(&instance->w2c_memory, (u64)(w2c_i0) + 24, w2c_j1);
+  w2c_j0 = 18446744073709551613ull;
+  w2c_l4 = w2c_j0;
+  w2c_i0 = w2c_l8;
+  w2c_i1 = 1u;
+  w2c_i0 = w2c_i0 != w2c_i1;
+  if (w2c_i0) {goto w2c_B1;}
+  w2c_j0 = w2c_l6;
+  w2c_j1 = w2c_l5;
+  w2c_i2 = 0u;
+  w2c_f7(instance, w2c_j0, w2c_j1, w2c_i2);
+  w2c_j0 = 0ull;
+  w2c_l4 = w2c_j0;
+  goto w2c_B1;
+  w2c_B7:;
+  w2c_j0 = w2c_p0;
+  w2c_j1 = 208ull;
+  w2c_j0 += w2c_j1;
+  w2c_i0 = (u32)(w2c_j0);
+  w2c_i0 = i32_load8_u(&instance->w2c_memory, (u64)(w2c_i0));
+  w2c_i1 = 1u;
+  w2c_i0 = w2c_i0 == w2c_i1;
+  if (w2c_i0) {
+    w2c_j0 = 18446744073709551609ull;
+    w2c_l4 = w2c_j0;
+    goto w2c_B1;
+  }
+  w2c_j0 = 18446744073709551613ull;
+  w2c_l4 = w2c_j0;
+  w2c_j0 = w2c_p0;
+  w2c_j1 = 49ull;
+  w2c_j0 += w2c_j1;
+  w2c_i0 = (u32)(w2c_j0);
+  w2c_i0 = i32_load8_u(&instance->w2c_memory, (u64)(w2c_i0));
+  if (w2c_i0) {goto w2c_B1;}
+  w2c_j0 = w2c_p0;
+  w2c_j1 = 56ull;
+  w2c_j0 += w2c_j1;
+  w2c_p1 = w2c_j0;
+  w2c_i0 = (u32)(w2c_j0);
+  w2c_i0 = i32_load8_u(&instance->w2c_memory, (u64)(w2c_i0));
+  w2c_i1 = 1u;
+  w2c_i0 = w2c_i0 != w2c_i1;
+  if (w2c_i0) {goto w2c_B1;}
+  w2c_j0 = w2c_p1;
+  w2c_i0 = (u32)(w2c_j0);
+  w2c_i1 = 256u;
+  i32_store16(&instance->w2c_memory, (u64)(w2c_i0), w2c_i1);
+  w2c_j0 = 0ull;
+  w2c_l4 = w2c_j0;
+  goto w2c_B1;
+  w2c_B6:;
+  w2c_j0 = w2c_p0;
+  w2c_i1 = 0u;
+  w2c_i2 = w2c_l9;
+  w2c_j3 = w2c_p2;
+  w2c_j4 = w2c_p3;
+  w2c_j0 = w2c_f76(instance, w2c_j0, w2c_i1, w2c_i2, w2c_j3, w2c_j4);
+  w2c_l4 = w2c_j0;
+  goto w2c_B1;
+  w2c_B5:;
+  w2c_j0 = w2c_p0;
+  w2c_i1 = 1u;
+  w2c_i2 = w2c_l9;
+  w2c_j3 = w2c_p2;
+  w2c_j4 = w2c_p3;
+  w2c_j0 = w2c_f76(instance, w2c_j0, w2c_i1, w2c_i2, w2c_j3, w2c_j4);
+  w2c_l4 = w2c_j0;
+  goto w2c_B1;
+  w2c_B4:;
+  w2c_j0 = w2c_p0;
+  w2c_j1 = 208ull;
+  w2c_j0 += w2c_j1;
+  w2c_i0 = (u32)(w2c_j0);
+  w2c_i0 = i32_load8_u(&instance->w2c_memory, (u64)(w2c_i0));
+  w2c_i1 = 1u;
+  w2c_i0 = w2c_i0 == w2c_i1;
+  if (w2c_i0) {
+    w2c_j0 = 18446744073709551609ull;
+    w2c_l4 = w2c_j0;
+    goto w2c_B1;
+  }
+  w2c_j0 = w2c_p3;
+  w2c_j1 = 29ull;
+  w2c_i0 = w2c_j0 < w2c_j1;
+  if (w2c_i0) {
+    w2c_j0 = 18446744073709551610ull;
+    w2c_l4 = w2c_j0;
+    goto w2c_B1;
+  }
+  w2c_i0 = w2c_l8;
+  w2c_j1 = w2c_p0;
+  w2c_i1 = (u32)(w2c_j1);
+  w2c_j1 = i64_load(&instance->w2c_memory, (u64)(w2c_i1));
+  w2c_p1 = w2c_j1;
+  w2c_j2 = 24ull;
+  w2c_j1 += w2c_j2;
+  w2c_i1 = (u32)(w2c_j1);
+  w2c_i1 = i32_load(&instance->w2c_memory, (u64)(w2c_i1));
+  w2c_i0 = w2c_i0 >= w2c_i1;
+  if (w2c_i0) {goto w2c_B1;}
+  w2c_j0 = w2c_p1;
+  w2c_j1 = 88ull;
+  w2c_j0 += w2c_j1;
+  w2c_i0 = (u32)(w2c_j0);
+  w2c_j0 = i64_load(&instance->w2c_memory, (u64)(w2c_i0));
+  w2c_i1 = w2c_l8;
+  w2c_j1 = (u64)(w2c_i1);
+  w2c_j2 = 24ull;
+  w2c_j1 *= w2c_j2;
+  w2c_j0 += w2c_j1;
+  w2c_p3 = w2c_j0;
+  w2c_j1 = 8ull;
+  w2c_j0 += w2c_j1;
+  w2c_i0 = (u32)(w2c_j0);
+  w2c_j0 = i64_load(&instance->w2c_memory, (u64)(w2c_i0));
+  w2c_i1 = w2c_l9;
+  w2c_j1 = (u64)(w2c_i1);
+  w2c_p1 = w2c_j1;
+  w2c_i0 = w2c_j0 <= w2c_j1;
+  if (w2c_i0) {goto w2c_B1;}
+  w2c_j0 = w2c_p0;
+  w2c_j1 = 256ull;
+  w2c_j0 += w2c_j1;
+  w2c_i0 = (u32)(w2c_j0);
+  w2c_j0 = i64_load(&instance->w2c_memory, (u64)(w2c_i0));
+  w2c_j1 = w2c_p1;
+  w2c_i0 = w2c_j0 <= w2c_j1;
+  if (w2c_i0) {goto w2c_B1;}
+  w2c_j0 = 18446744073709551613ull;
+  w2c_l4 = w2c_j0;
+  w2c_i0 = w2c_l9;
+  w2c_j1 = w2c_p0;
+  w2c_j2 = 72ull;
+  w2c_j1 += w2c_j2;
+  w2c_i1 = (u32)(w2c_j1);
+  w2c_i1 = i32_load(&instance->w2c_memory, (u64)(w2c_i1));
+  w2c_i0 = w2c_i0 >= w2c_i1;
+  if (w2c_i0) {goto w2c_B1;}
+  w2c_j0 = w2c_p0;
+  w2c_j1 = 49ull;
+  w2c_j0 += w2c_j1;
+  w2c_i0 = (u32)(w2c_j0);
+  w2c_i0 = i32_load8_u(&instance->w2c_memory, (u64)(w2c_i0));
+  if (w2c_i0) {goto w2c_B1;}
+  w2c_j0 = w2c_p3;
+  w2c_i0 = (u32)(w2c_j0);
+  w2c_j0 = i64_load(&instance->w2c_memory, (u64)(w2c_i0));
+  w2c_j1 = w2c_p1;
+  w2c_j2 = 2ull;
+  w2c_j1 <<= (w2c_j2 & 63);
+  w2c_j0 += w2c_j1;
+  w2c_i0 = (u32)(w2c_j0);
+  w2c_i0 = i32_load(&instance->w2c_memory, (u64)(w2c_i0));
+  w2c_l8 = w2c_i0;
+  w2c_j0 = w2c_p0;
+  w2c_j1 = 8ull;
+  w2c_j0 += w2c_j1;
+  w2c_i0 = (u32)(w2c_j0);
+  w2c_j0 = i64_load(&instance->w2c_memory, (u64)(w2c_i0));
+  w2c_l6 = w2c_j0;
+  w2c_j0 = w2c_p0;
+  w2c_j1 = 18446744073709551552ull;
+  w2c_j0 -= w2c_j1;
+  w2c_i0 = (u32)(w2c_j0);
+  w2c_j0 = i64_load(&instance->w2c_memory, (u64)(w2c_i0));
+  w2c_p3 = w2c_j0;
+  w2c_j0 = w2c_p0;
+  w2c_j1 = 52ull;
+  w2c_j0 += w2c_j1;
+  w2c_i0 = (u32)(w2c_j0);
+  w2c_i0 = i32_load(&instance->w2c_memory, (u64)(w2c_i0));
+  w2c_j1 = w2c_p0;
+  w2c_j2 = 20ull;
+  w2c_j1 += w2c_j2;
+  w2c_i1 = (u32)(w2c_j1);
+  w2c_i1 = i32_load(&instance->w2c_memory, (u64)(w2c_i1));
+  w2c_i0 = w2c_i0 != w2c_i1;
+  if (w2c_i0) {
+    w2c_j0 = w2c_p0;
+    w2c_j1 = 57ull;
+    w2c_j0 += w2c_j1;
+    w2c_i0 = (u32)(w2c_j0);
+    w2c_i0 = i32_load8_u(&instance->w2c_memory, (u64)(w2c_i0));
+    w2c_i1 = 1u;
+    w2c_i0 = w2c_i0 != w2c_i1;
+    if (w2c_i0) {goto w2c_B1;}
+  }
+  w2c_j0 = w2c_p3;
+  w2c_j1 = w2c_p1;
+  w2c_j2 = 56ull;
+  w2c_j1 *= w2c_j2;
+  w2c_j0 += w2c_j1;
+  w2c_p3 = w2c_j0;
+  w2c_j1 = 48ull;
+  w2c_j0 += w2c_j1;
+  w2c_i0 = (u32)(w2c_j0);
+  w2c_i0 = i32_load8_u(&instance->w2c_memory, (u64)(w2c_i0));
+  if (w2c_i0) {goto w2c_B1;}
+  w2c_j0 = w2c_p3;
+  w2c_j1 = 50ull;
+  w2c_j0 += w2c_j1;
+  w2c_i0 = (u32)(w2c_j0);
+  w2c_i0 = i32_load8_u(&instance->w2c_memory, (u64)(w2c_i0));
+  if (w2c_i0) {goto w2c_B1;}
+  w2c_j0 = w2c_p3;
+  w2c_j1 = 48ull;
+  w2c_j0 += w2c_j1;
+  w2c_i0 = (u32)(w2c_j0);
+  w2c_i1 = 1u;
+  i32_store8(&instance->w2c_memory, (u64)(w2c_i0), w2c_i1);
+  w2c_j0 = w2c_p0;
+  w2c_j1 = 120ull;
+  w2c_j0 += w2c_j1;
+  w2c_p0 = w2c_j0;
+  w2c_i0 = (u32)(w2c_j0);
+  w2c_j1 = w2c_p0;
+  w2c_i1 = (u32)(w2c_j1);
+  w2c_j1 = i64_load(&instance->w2c_memory, (u64)(w2c_i1));
+  w2c_j2 = 1ull;
+  w2c_j3 = w2c_p1;
+  w2c_j2 <<= (w2c_j3 & 63);
+  w2c_j1 |= w2c_j2;
+  i64_store(&instance->w2c_memory, (u64)(w2c_i0), w2c_j1);
+  w2c_j0 = w2c_p2;
+  w2c_j1 = 9ull;
+  w2c_j0 += w2c_j1;
+  w2c_i0 = (u32)(w2c_j0);
+  w2c_i1 = w2c_l8;
+  i32_store(&instance->w2c_memory, (u64)(w2c_i0), w2c_i1);
+  w2c_j0 = w2c_p2;
+  w2c_j1 = 8ull;
+  w2c_j0 += w2c_j1;
+  w2c_i0 = (u32)(w2c_j0);
+  w2c_i1 = 3u;
+  i32_store8(&instance->w2c_memory, (u64)(w2c_i0), w2c_i1);
+  w2c_j0 = w2c_p2;
+  w2c_i0 = (u32)(w2c_j0);
+  w2c_j1 = w2c_l6;
+  i64_store(&instance->w2c_memory, (u64)(w2c_i0), w2c_j1);
+  goto w2c_B2;
+  w2c_B3:;
+  w2c_j0 = w2c_p0;
+  w2c_j1 = 208ull;
+  w2c_j0 += w2c_j1;
+  w2c_i0 = (u32)(w2c_j0);
+  w2c_i0 = i32_load8_u(&instance->w2c_memory, (u64)(w2c_i0));
+  w2c_i1 = 1u;
+  w2c_i0 = w2c_i0 == w2c_i1;
+  if (w2c_i0) {
+    w2c_j0 = 18446744073709551609ull;
+    w2c_l4 = w2c_j0;
+    goto w2c_B1;
+  }
+  w2c_j0 = w2c_p3;
+  w2c_j1 = 29ull;
+  w2c_i0 = w2c_j0 < w2c_j1;
+  if (w2c_i0) {
+    w2c_j0 = 18446744073709551610ull;
+    w2c_l4 = w2c_j0;
+    goto w2c_B1;
+  }
+  w2c_i0 = w2c_l8;
+  w2c_j1 = w2c_p0;
+  w2c_i1 = (u32)(w2c_j1);
+  w2c_j1 = i64_load(&instance->w2c_memory, (u64)(w2c_i1));
+  w2c_p1 = w2c_j1;
+  w2c_j2 = 24ull;
+  w2c_j1 += w2c_j2;
+  w2c_i1 = (u32)(w2c_j1);
+  w2c_i1 = i32_load(&instance->w2c_memory, (u64)(w2c_i1));
+  w2c_i0 = w2c_i0 >= w2c_i1;
+  if (w2c_i0) {goto w2c_B1;}
+  w2c_j0 = w2c_p1;
+  w2c_j1 = 88ull;
+  w2c_j0 += w2c_j1;
+  w2c_i0 = (u32)(w2c_j0);
+  w2c_j0 = i64_load(&instance->w2c_memory, (u64)(w2c_i0));
+  w2c_i1 = w2c_l8;
+  w2c_j1 = (u64)(w2c_i1);
+  w2c_j2 = 24ull;
+  w2c_j1 *= w2c_j2;
+  w2c_j0 += w2c_j1;
+  w2c_p3 = w2c_j0;
+  w2c_j1 = 8ull;
+  w2c_j0 += w2c_j1;
+  w2c_i0 = (u32)(w2c_j0);
+  w2c_j0 = i64_load(&instance->w2c_memory, (u64)(w2c_i0));
+  w2c_i1 = w2c_l9;
+  w2c_j1 = (u64)(w2c_i1);
+  w2c_p1 = w2c_j1;
+  w2c_i0 = w2c_j0 <= w2c_j1;
+  if (w2c_i0) {goto w2c_B1;}
+  w2c_j0 = w2c_p0;
+  w2c_j1 = 256ull;
+  w2c_j0 += w2c_j1;
+  w2c_i0 = (u32)(w2c_j0);
+  w2c_j0 = i64_load(&instance->w2c_memory, (u64)(w2c_i0));
+  w2c_j1 = w2c_p1;
+  w2c_i0 = w2c_j0 <= w2c_j1;
+  if (w2c_i0) {goto w2c_B1;}
+  w2c_j0 = 18446744073709551613ull;
+  w2c_l4 = w2c_j0;
+  w2c_i0 = w2c_l9;
+  w2c_j1 = w2c_p0;
+  w2c_j2 = 72ull;
+  w2c_j1 += w2c_j2;
+  w2c_i1 = (u32)(w2c_j1);
+  w2c_i1 = i32_load(&instance->w2c_memory, (u64)(w2c_i1));
+  w2c_i0 = w2c_i0 >= w2c_i1;
+  if (w2c_i0) {goto w2c_B1;}
+  w2c_j0 = w2c_p0;
+  w2c_j1 = 18446744073709551552ull;
+  w2c_j0 -= w2c_j1;
+  w2c_i0 = (u32)(w2c_j0);
+  w2c_j0 = i64_load(&instance->w2c_memory, (u64)(w2c_i0));
+  w2c_j1 = w2c_p1;
+  w2c_j2 = 56ull;
+  w2c_j1 *= w2c_j2;
+  w2c_j0 += w2c_j1;
+  w2c_l6 = w2c_j0;
+  w2c_j1 = 48ull;
+  w2c_j0 += w2c_j1;
+  w2c_i0 = (u32)(w2c_j0);
+  w2c_i0 = i32_load8_u(&instance->w2c_memory, (u64)(w2c_i0));
+  w2c_i1 = 1u;
+  w2c_i0 = w2c_i0 != w2c_i1;
+  if (w2c_i0) {goto w2c_B1;}
+  w2c_j0 = w2c_l6;
+  w2c_j1 = 49ull;
+  w2c_j0 += w2c_j1;
+  w2c_i0 = (u32)(w2c_j0);
+  w2c_i0 = i32_load8_u(&instance->w2c_memory, (u64)(w2c_i0));
+  w2c_i1 = 1u;
+  w2c_i0 = w2c_i0 != w2c_i1;
+  if (w2c_i0) {goto w2c_B1;}
+  w2c_j0 = w2c_l6;
+  w2c_j1 = 50ull;
+  w2c_j0 += w2c_j1;
+  w2c_l6 = w2c_j0;
+  w2c_i0 = (u32)(w2c_j0);
+  w2c_i0 = i32_load8_u(&instance->w2c_memory, (u64)(w2c_i0));
+  if (w2c_i0) {goto w2c_B1;}
+  w2c_j0 = w2c_p3;
+  w2c_i0 = (u32)(w2c_j0);
+  w2c_j0 = i64_load(&instance->w2c_memory, (u64)(w2c_i0));
+  w2c_j1 = w2c_p1;
+  w2c_j2 = 2ull;
+  w2c_j1 <<= (w2c_j2 & 63);
+  w2c_j0 += w2c_j1;
+  w2c_i0 = (u32)(w2c_j0);
+  w2c_i0 = i32_load(&instance->w2c_memory, (u64)(w2c_i0));
+  w2c_l8 = w2c_i0;
+  w2c_j0 = w2c_p0;
+  w2c_j1 = 8ull;
+  w2c_j0 += w2c_j1;
+  w2c_i0 = (u32)(w2c_j0);
+  w2c_j0 = i64_load(&instance->w2c_memory, (u64)(w2c_i0));
+  w2c_l4 = w2c_j0;
+  w2c_j0 = w2c_l6;
+  w2c_i0 = (u32)(w2c_j0);
+  w2c_i1 = 1u;
+  i32_store8(&instance->w2c_memory, (u64)(w2c_i0), w2c_i1);
+  w2c_j0 = w2c_p0;
+  w2c_j1 = 112ull;
+  w2c_j0 += w2c_j1;
+  w2c_p0 = w2c_j0;
+  w2c_i0 = (u32)(w2c_j0);
+  w2c_j1 = w2c_p0;
+  w2c_i1 = (u32)(w2c_j1);
+  w2c_j1 = i64_load(&instance->w2c_memory, (u64)(w2c_i1));
+  w2c_j2 = 18446744073709551614ull;
+  w2c_j3 = w2c_p1;
+  w2c_j2 = I64_ROTL(w2c_j2, w2c_j3);
+  w2c_j1 &= w2c_j2;
+  i64_store(&instance->w2c_memory, (u64)(w2c_i0), w2c_j1);
+  w2c_j0 = w2c_p2;
+  w2c_j1 = 9ull;
+  w2c_j0 += w2c_j1;
+  w2c_i0 = (u32)(w2c_j0);
+  w2c_i1 = w2c_l8;
+  i32_store(&instance->w2c_memory, (u64)(w2c_i0), w2c_i1);
+  w2c_j0 = w2c_p2;
+  w2c_j1 = 8ull;
+  w2c_j0 += w2c_j1;
+  w2c_i0 = (u32)(w2c_j0);
+  w2c_i1 = 4u;
+  i32_store8(&instance->w2c_memory, (u64)(w2c_i0), w2c_i1);
+  w2c_j0 = w2c_p2;
+  w2c_i0 = (u32)(w2c_j0);
+  w2c_j1 = w2c_l4;
+  i64_store(&instance->w2c_memory, (u64)(w2c_i0), w2c_j1);
+  w2c_B2:;
+  w2c_j0 = 13ull;
+  w2c_l4 = w2c_j0;
+  w2c_B1:;
+  w2c_j0 = w2c_l5;
+  w2c_j1 = 32ull;
+  w2c_j0 += w2c_j1;
+  instance->w2c_g0 = w2c_j0;
+  w2c_j0 = w2c_l4;
+  goto w2c_Bfunc;
+  w2c_B0:;
+  UNREACHABLE;
+  w2c_Bfunc:;
+  FUNC_EPILOGUE;
+  return w2c_j0;
+}
+
+static void w2c_f75(Z_dine_ffi_instance_t* instance, u64 w2c_p0, u64 w2c_p1) {
   u32 w2c_l11 = 0, w2c_l12 = 0, w2c_l13 = 0, w2c_l14 = 0;
   u64 w2c_l2 = 0, w2c_l3 = 0, w2c_l4 = 0, w2c_l5 = 0, w2c_l6 = 0, w2c_l7 = 0, w2c_l8 = 0, w2c_l9 = 0, 
       w2c_l10 = 0;
@@ -71001,7 +71642,7 @@ static void w2c_f74(Z_dine_ffi_instance_t* instance, u64 w2c_p0, u64 w2c_p1) {
   FUNC_EPILOGUE;
 }
 
-static u64 w2c_f75(Z_dine_ffi_instance_t* instance, u64 w2c_p0, u32 w2c_p1, u32 w2c_p2, u64 w2c_p3, u64 w2c_p4) {
+static u64 w2c_f76(Z_dine_ffi_instance_t* instance, u64 w2c_p0, u32 w2c_p1, u32 w2c_p2, u64 w2c_p3, u64 w2c_p4) {
   u32 w2c_l12 = 0;
   u64 w2c_l5 = 0, w2c_l6 = 0, w2c_l7 = 0, w2c_l8 = 0, w2c_l9 = 0, w2c_l10 = 0, w2c_l11 = 0;
   FUNC_PROLOGUE;
@@ -71682,7 +72323,7 @@ static u64 w2c_f75(Z_dine_ffi_instance_t* instance, u64 w2c_p0, u32 w2c_p1, u32 
   return w2c_j0;
 }
 
-static void w2c_f76(Z_dine_ffi_instance_t* instance, u64 w2c_p0, u64 w2c_p1) {
+static void w2c_f77(Z_dine_ffi_instance_t* instance, u64 w2c_p0, u64 w2c_p1) {
   u32 w2c_l2 = 0, w2c_l3 = 0, w2c_l4 = 0, w2c_l5 = 0;
   u64 w2c_l6 = 0, w2c_l7 = 0, w2c_l8 = 0, w2c_l9 = 0;
   FUNC_PROLOGUE;
@@ -71899,11 +72540,11 @@ static void w2c_f76(Z_dine_ffi_instance_t* instance, u64 w2c_p0, u64 w2c_p1) {
   FUNC_EPILOGUE;
 }
 
-static u64 w2c_f77(Z_dine_ffi_instance_t* instance, u64 w2c_p0, u32 w2c_p1, u64 w2c_p2, u64 w2c_p3) {
-  u32 w2c_l23 = 0, w2c_l24 = 0, w2c_l25 = 0;
+static u64 w2c_f78(Z_dine_ffi_instance_t* instance, u64 w2c_p0, u32 w2c_p1, u64 w2c_p2, u64 w2c_p3) {
+  u32 w2c_l22 = 0, w2c_l23 = 0, w2c_l24 = 0, w2c_l25 = 0, w2c_l26 = 0;
   u64 w2c_l4 = 0, w2c_l5 = 0, w2c_l6 = 0, w2c_l7 = 0, w2c_l8 = 0, w2c_l9 = 0, w2c_l10 = 0, w2c_l11 = 0, 
       w2c_l12 = 0, w2c_l13 = 0, w2c_l14 = 0, w2c_l15 = 0, w2c_l16 = 0, w2c_l17 = 0, w2c_l18 = 0, w2c_l19 = 0, 
-      w2c_l20 = 0, w2c_l21 = 0, w2c_l22 = 0;
+      w2c_l20 = 0, w2c_l21 = 0;
   FUNC_PROLOGUE;
   u32 w2c_i0, w2c_i1, w2c_i2, w2c_i3;
   u64 w2c_j0, w2c_j1, w2c_j2, w2c_j3, w2c_j4, w2c_j5;
@@ -71921,7 +72562,7 @@ static u64 w2c_f77(Z_dine_ffi_instance_t* instance, u64 w2c_p0, u32 w2c_p1, u64 
   w2c_i0 = w2c_i0 == w2c_i1;
   if (w2c_i0) {
     w2c_j0 = 18446744073709551608ull;
-    w2c_l14 = w2c_j0;
+    w2c_l13 = w2c_j0;
     goto w2c_B0;
   }
   w2c_j0 = w2c_p0;
@@ -71935,28 +72576,28 @@ static u64 w2c_f77(Z_dine_ffi_instance_t* instance, u64 w2c_p0, u32 w2c_p1, u64 
   w2c_j0 = w2c_p0;
   w2c_i0 = (u32)(w2c_j0);
   w2c_i0 = i32_load(&instance->w2c_memory, (u64)(w2c_i0) + 8u);
-  w2c_l23 = w2c_i0;
+  w2c_l22 = w2c_i0;
   w2c_j0 = w2c_p0;
   w2c_i0 = (u32)(w2c_j0);
   w2c_j1 = 0ull;
   i64_store(&instance->w2c_memory, (u64)(w2c_i0) + 8, w2c_j1);
-  w2c_i0 = w2c_l23;
+  w2c_i0 = w2c_l22;
   w2c_i1 = 1701734756u;
   w2c_i0 = w2c_i0 != w2c_i1;
   if (w2c_i0) {
     w2c_j0 = 18446744073709551615ull;
-    w2c_l14 = w2c_j0;
+    w2c_l13 = w2c_j0;
     goto w2c_B0;
   }
   w2c_j0 = w2c_l6;
   w2c_j1 = 0ull;
-  w2c_i2 = w2c_l23;
+  w2c_i2 = w2c_l22;
   w2c_i3 = 1701734756u;
   w2c_i2 = w2c_i2 == w2c_i3;
   w2c_j0 = w2c_i2 ? w2c_j0 : w2c_j1;
   w2c_l16 = w2c_j0;
   w2c_j0 = 18446744073709551614ull;
-  w2c_l14 = w2c_j0;
+  w2c_l13 = w2c_j0;
   w2c_j0 = w2c_l6;
   w2c_i0 = (u32)(w2c_j0);
   w2c_i0 = i32_load8_u(&instance->w2c_memory, (u64)(w2c_i0));
@@ -71992,14 +72633,14 @@ static u64 w2c_f77(Z_dine_ffi_instance_t* instance, u64 w2c_p0, u32 w2c_p1, u64 
   w2c_i2 = 280u;
   memory_fill(&instance->w2c_memory, w2c_i0, w2c_i1, w2c_i2);
   w2c_j0 = 18446744073709551612ull;
-  w2c_l14 = w2c_j0;
+  w2c_l13 = w2c_j0;
   w2c_i0 = w2c_p1;
   w2c_j1 = w2c_l6;
   w2c_j2 = 8ull;
   w2c_j1 += w2c_j2;
   w2c_i1 = (u32)(w2c_j1);
   w2c_j1 = i64_load(&instance->w2c_memory, (u64)(w2c_i1));
-  w2c_l9 = w2c_j1;
+  w2c_l10 = w2c_j1;
   w2c_j2 = 24ull;
   w2c_j1 += w2c_j2;
   w2c_i1 = (u32)(w2c_j1);
@@ -72008,20 +72649,20 @@ static u64 w2c_f77(Z_dine_ffi_instance_t* instance, u64 w2c_p0, u32 w2c_p1, u64 
   if (w2c_i0) {goto w2c_B3;}
   w2c_L4: 
     w2c_j0 = 18446744073709551611ull;
-    w2c_l14 = w2c_j0;
-    w2c_j0 = w2c_l9;
+    w2c_l13 = w2c_j0;
+    w2c_j0 = w2c_l10;
     w2c_i0 = (u32)(w2c_j0);
     w2c_j0 = i64_load(&instance->w2c_memory, (u64)(w2c_i0));
     w2c_l6 = w2c_j0;
     w2c_j1 = 9223372036854775806ull;
     w2c_i0 = w2c_j0 > w2c_j1;
     if (w2c_i0) {goto w2c_B3;}
-    w2c_j0 = w2c_l9;
+    w2c_j0 = w2c_l10;
     w2c_i0 = (u32)(w2c_j0);
     w2c_j1 = w2c_l6;
     w2c_j2 = 1ull;
     w2c_j1 += w2c_j2;
-    w2c_j2 = w2c_l9;
+    w2c_j2 = w2c_l10;
     w2c_i2 = (u32)(w2c_j2);
     w2c_j2 = i64_load(&instance->w2c_memory, (u64)(w2c_i2));
     w2c_l5 = w2c_j2;
@@ -72109,7 +72750,7 @@ static u64 w2c_f77(Z_dine_ffi_instance_t* instance, u64 w2c_p0, u32 w2c_p1, u64 
   w2c_i0 = (u32)(w2c_j0);
   w2c_j1 = 0ull;
   i64_store(&instance->w2c_memory, (u64)(w2c_i0) + 880, w2c_j1);
-  w2c_j0 = w2c_l9;
+  w2c_j0 = w2c_l10;
   w2c_j1 = 88ull;
   w2c_j0 += w2c_j1;
   w2c_i0 = (u32)(w2c_j0);
@@ -72149,15 +72790,15 @@ static u64 w2c_f77(Z_dine_ffi_instance_t* instance, u64 w2c_p0, u32 w2c_p1, u64 
   w2c_j1 = 888ull;
   w2c_j0 += w2c_j1;
   w2c_l12 = w2c_j0;
-  w2c_j0 = w2c_l9;
+  w2c_j0 = w2c_l10;
   w2c_j1 = 40ull;
   w2c_j0 += w2c_j1;
   w2c_l17 = w2c_j0;
-  w2c_j0 = w2c_l9;
+  w2c_j0 = w2c_l10;
   w2c_j1 = 16ull;
   w2c_j0 += w2c_j1;
   w2c_l18 = w2c_j0;
-  w2c_j0 = w2c_l9;
+  w2c_j0 = w2c_l10;
   w2c_j1 = 18446744073709551552ull;
   w2c_j0 -= w2c_j1;
   w2c_l19 = w2c_j0;
@@ -72165,7 +72806,7 @@ static u64 w2c_f77(Z_dine_ffi_instance_t* instance, u64 w2c_p0, u32 w2c_p1, u64 
   w2c_l6 = w2c_j0;
   w2c_L14: 
     w2c_j0 = 0ull;
-    w2c_l10 = w2c_j0;
+    w2c_l9 = w2c_j0;
     w2c_j0 = 0ull;
     w2c_l5 = w2c_j0;
     w2c_j0 = w2c_l7;
@@ -72179,13 +72820,13 @@ static u64 w2c_f77(Z_dine_ffi_instance_t* instance, u64 w2c_p0, u32 w2c_p1, u64 
     w2c_i1 = (u32)(w2c_j1);
     w2c_j1 = i64_load(&instance->w2c_memory, (u64)(w2c_i1));
     w2c_j0 += w2c_j1;
-    w2c_l13 = w2c_j0;
+    w2c_l14 = w2c_j0;
     w2c_i0 = (u32)(w2c_j0);
     w2c_i0 = i32_load(&instance->w2c_memory, (u64)(w2c_i0));
-    w2c_l23 = w2c_i0;
+    w2c_l22 = w2c_i0;
     w2c_i1 = w2c_p1;
     w2c_i0 = w2c_i0 == w2c_i1;
-    w2c_l24 = w2c_i0;
+    w2c_l23 = w2c_i0;
     w2c_i0 = !(w2c_i0);
     if (w2c_i0) {
       w2c_j0 = w2c_l19;
@@ -72203,21 +72844,27 @@ static u64 w2c_f77(Z_dine_ffi_instance_t* instance, u64 w2c_p0, u32 w2c_p1, u64 
       w2c_i1 = (u32)(w2c_j1);
       w2c_j1 = i64_load(&instance->w2c_memory, (u64)(w2c_i1));
       w2c_l5 = w2c_j1;
-      w2c_i2 = w2c_l23;
+      w2c_i2 = w2c_l22;
       w2c_j2 = (u64)(w2c_i2);
       w2c_l21 = w2c_j2;
       w2c_j3 = 56ull;
       w2c_j2 *= w2c_j3;
       w2c_j1 += w2c_j2;
-      w2c_j2 = 32ull;
+      w2c_l9 = w2c_j1;
+      w2c_j2 = 48ull;
       w2c_j1 += w2c_j2;
       w2c_i1 = (u32)(w2c_j1);
-      w2c_j1 = i64_load(&instance->w2c_memory, (u64)(w2c_i1));
-      w2c_l10 = w2c_j1;
-      w2c_j2 = 4294967295ull;
-      w2c_j1 &= w2c_j2;
+      w2c_i1 = i32_load(&instance->w2c_memory, (u64)(w2c_i1));
+      w2c_j2 = w2c_l9;
+      w2c_j3 = 32ull;
+      w2c_j2 += w2c_j3;
+      w2c_i2 = (u32)(w2c_j2);
+      w2c_i2 = i32_load(&instance->w2c_memory, (u64)(w2c_i2));
+      w2c_i1 += w2c_i2;
+      w2c_l24 = w2c_i1;
+      w2c_j1 = (u64)(w2c_i1);
       w2c_j2 = w2c_l5;
-      w2c_j3 = w2c_l13;
+      w2c_j3 = w2c_l14;
       w2c_i3 = (u32)(w2c_j3);
       w2c_i3 = i32_load(&instance->w2c_memory, (u64)(w2c_i3) + 4u);
       w2c_l25 = w2c_i3;
@@ -72225,20 +72872,26 @@ static u64 w2c_f77(Z_dine_ffi_instance_t* instance, u64 w2c_p0, u32 w2c_p1, u64 
       w2c_j4 = 56ull;
       w2c_j3 *= w2c_j4;
       w2c_j2 += w2c_j3;
-      w2c_j3 = 32ull;
+      w2c_l5 = w2c_j2;
+      w2c_j3 = 48ull;
       w2c_j2 += w2c_j3;
       w2c_i2 = (u32)(w2c_j2);
-      w2c_j2 = i64_load(&instance->w2c_memory, (u64)(w2c_i2));
-      w2c_l13 = w2c_j2;
-      w2c_j3 = 4294967295ull;
-      w2c_j2 &= w2c_j3;
+      w2c_i2 = i32_load(&instance->w2c_memory, (u64)(w2c_i2));
+      w2c_j3 = w2c_l5;
+      w2c_j4 = 32ull;
+      w2c_j3 += w2c_j4;
+      w2c_i3 = (u32)(w2c_j3);
+      w2c_i3 = i32_load(&instance->w2c_memory, (u64)(w2c_i3));
+      w2c_i2 += w2c_i3;
+      w2c_l26 = w2c_i2;
+      w2c_j2 = (u64)(w2c_i2);
       w2c_j1 += w2c_j2;
       w2c_j2 = 1ull;
       w2c_j1 += w2c_j2;
-      w2c_l22 = w2c_j1;
+      w2c_l9 = w2c_j1;
       w2c_j2 = 12ull;
       w2c_j1 *= w2c_j2;
-      w2c_f136(instance, w2c_j0, w2c_j1);
+      w2c_f140(instance, w2c_j0, w2c_j1);
       w2c_j0 = w2c_l4;
       w2c_i0 = (u32)(w2c_j0);
       w2c_i0 = i32_load(&instance->w2c_memory, (u64)(w2c_i0) + 24u);
@@ -72254,13 +72907,13 @@ static u64 w2c_f77(Z_dine_ffi_instance_t* instance, u64 w2c_p0, u32 w2c_p1, u64 
         i64_store(&instance->w2c_memory, (u64)(w2c_i0) + 4, w2c_j1);
         w2c_j0 = w2c_l8;
         w2c_i0 = (u32)(w2c_j0);
-        w2c_i1 = w2c_l23;
+        w2c_i1 = w2c_l22;
         i32_store(&instance->w2c_memory, (u64)(w2c_i0), w2c_i1);
         w2c_j0 = w2c_l4;
         w2c_j1 = 8ull;
         w2c_j0 += w2c_j1;
         w2c_j1 = 72ull;
-        w2c_f136(instance, w2c_j0, w2c_j1);
+        w2c_f140(instance, w2c_j0, w2c_j1);
         w2c_j0 = w2c_l4;
         w2c_i0 = (u32)(w2c_j0);
         w2c_j0 = i64_load(&instance->w2c_memory, (u64)(w2c_i0) + 8u);
@@ -72274,7 +72927,7 @@ static u64 w2c_f77(Z_dine_ffi_instance_t* instance, u64 w2c_p0, u32 w2c_p1, u64 
       w2c_j0 = w2c_l4;
       w2c_i0 = (u32)(w2c_j0);
       w2c_j0 = i64_load(&instance->w2c_memory, (u64)(w2c_i0) + 880u);
-      w2c_l10 = w2c_j0;
+      w2c_l9 = w2c_j0;
       w2c_j0 = w2c_l6;
       w2c_i0 = !(w2c_j0);
       w2c_i0 = !(w2c_i0);
@@ -72320,7 +72973,7 @@ static u64 w2c_f77(Z_dine_ffi_instance_t* instance, u64 w2c_p0, u32 w2c_p1, u64 
           w2c_i0 = w2c_j0 != w2c_j1;
           if (w2c_i0) {goto w2c_L19;}
       }
-      w2c_j0 = w2c_l10;
+      w2c_j0 = w2c_l9;
       w2c_i0 = !(w2c_j0);
       w2c_i0 = !(w2c_i0);
       if (w2c_i0) {goto w2c_B10;}
@@ -72339,16 +72992,16 @@ static u64 w2c_f77(Z_dine_ffi_instance_t* instance, u64 w2c_p0, u32 w2c_p1, u64 
       i32_store8(&instance->w2c_memory, (u64)(w2c_i0) + 24, w2c_i1);
       w2c_j0 = w2c_l5;
       w2c_i0 = (u32)(w2c_j0);
-      w2c_i1 = w2c_l23;
+      w2c_i1 = w2c_l22;
       i32_store(&instance->w2c_memory, (u64)(w2c_i0) + 20, w2c_i1);
       w2c_j0 = w2c_l5;
       w2c_i0 = (u32)(w2c_j0);
-      w2c_j1 = w2c_l13;
-      i64_store32(&instance->w2c_memory, (u64)(w2c_i0) + 16, w2c_j1);
+      w2c_i1 = w2c_l26;
+      i32_store(&instance->w2c_memory, (u64)(w2c_i0) + 16, w2c_i1);
       w2c_j0 = w2c_l5;
       w2c_i0 = (u32)(w2c_j0);
-      w2c_j1 = w2c_l10;
-      i64_store32(&instance->w2c_memory, (u64)(w2c_i0) + 12, w2c_j1);
+      w2c_i1 = w2c_l24;
+      i32_store(&instance->w2c_memory, (u64)(w2c_i0) + 12, w2c_i1);
       w2c_j0 = w2c_l5;
       w2c_i0 = (u32)(w2c_j0);
       w2c_i1 = w2c_l25;
@@ -72359,7 +73012,7 @@ static u64 w2c_f77(Z_dine_ffi_instance_t* instance, u64 w2c_p0, u32 w2c_p1, u64 
       i64_store(&instance->w2c_memory, (u64)(w2c_i0) + 32, w2c_j1);
       w2c_j0 = w2c_l5;
       w2c_i0 = (u32)(w2c_j0);
-      w2c_j1 = w2c_l22;
+      w2c_j1 = w2c_l9;
       i64_store(&instance->w2c_memory, (u64)(w2c_i0) + 64, w2c_j1);
       w2c_j0 = w2c_l5;
       w2c_i0 = (u32)(w2c_j0);
@@ -72382,7 +73035,7 @@ static u64 w2c_f77(Z_dine_ffi_instance_t* instance, u64 w2c_p0, u32 w2c_p1, u64 
       w2c_j1 |= w2c_j2;
       i64_store(&instance->w2c_memory, (u64)(w2c_i0), w2c_j1);
       w2c_j0 = 1ull;
-      w2c_l10 = w2c_j0;
+      w2c_l9 = w2c_j0;
     }
     w2c_j0 = w2c_l6;
     w2c_j1 = w2c_l4;
@@ -72412,7 +73065,7 @@ static u64 w2c_f77(Z_dine_ffi_instance_t* instance, u64 w2c_p0, u32 w2c_p1, u64 
     w2c_j0 += w2c_j1;
     w2c_l8 = w2c_j0;
     w2c_i0 = (u32)(w2c_j0);
-    w2c_j1 = w2c_l10;
+    w2c_j1 = w2c_l9;
     i64_store(&instance->w2c_memory, (u64)(w2c_i0), w2c_j1);
     w2c_j0 = w2c_l8;
     w2c_j1 = 8ull;
@@ -72450,12 +73103,12 @@ static u64 w2c_f77(Z_dine_ffi_instance_t* instance, u64 w2c_p0, u32 w2c_p1, u64 
   w2c_j0 = w2c_l4;
   w2c_j1 = 832ull;
   w2c_j0 += w2c_j1;
-  w2c_j1 = w2c_l9;
+  w2c_j1 = w2c_l10;
   w2c_j2 = 8ull;
   w2c_j1 += w2c_j2;
   w2c_l5 = w2c_j1;
   w2c_i2 = w2c_p1;
-  w2c_f78(instance, w2c_j0, w2c_j1, w2c_i2);
+  w2c_f79(instance, w2c_j0, w2c_j1, w2c_i2);
   w2c_j0 = w2c_l4;
   w2c_i0 = (u32)(w2c_j0);
   w2c_i0 = i32_load8_u(&instance->w2c_memory, (u64)(w2c_i0) + 832u);
@@ -72471,13 +73124,13 @@ static u64 w2c_f77(Z_dine_ffi_instance_t* instance, u64 w2c_p0, u32 w2c_p1, u64 
   w2c_j0 = w2c_l4;
   w2c_i0 = (u32)(w2c_j0);
   w2c_j0 = i64_load(&instance->w2c_memory, (u64)(w2c_i0) + 840u);
-  w2c_l13 = w2c_j0;
+  w2c_l14 = w2c_j0;
   w2c_j0 = w2c_l4;
   w2c_j1 = 800ull;
   w2c_j0 += w2c_j1;
   w2c_j1 = w2c_l5;
   w2c_i2 = w2c_p1;
-  w2c_f79(instance, w2c_j0, w2c_j1, w2c_i2);
+  w2c_f80(instance, w2c_j0, w2c_j1, w2c_i2);
   w2c_j0 = w2c_l4;
   w2c_i0 = (u32)(w2c_j0);
   w2c_i0 = i32_load8_u(&instance->w2c_memory, (u64)(w2c_i0) + 800u);
@@ -72492,7 +73145,7 @@ static u64 w2c_f77(Z_dine_ffi_instance_t* instance, u64 w2c_p0, u32 w2c_p1, u64 
   i64_store(&instance->w2c_memory, (u64)(w2c_i0) + 584, w2c_j1);
   w2c_j0 = w2c_l4;
   w2c_i0 = (u32)(w2c_j0);
-  w2c_j1 = w2c_l13;
+  w2c_j1 = w2c_l14;
   i64_store(&instance->w2c_memory, (u64)(w2c_i0) + 576, w2c_j1);
   w2c_j0 = w2c_l4;
   w2c_j1 = 600ull;
@@ -72505,7 +73158,7 @@ static u64 w2c_f77(Z_dine_ffi_instance_t* instance, u64 w2c_p0, u32 w2c_p1, u64 
   w2c_j4 = w2c_l4;
   w2c_j5 = 808ull;
   w2c_j4 += w2c_j5;
-  w2c_f80(instance, w2c_j0, w2c_j1, w2c_i2, w2c_j3, w2c_j4);
+  w2c_f81(instance, w2c_j0, w2c_j1, w2c_i2, w2c_j3, w2c_j4);
   w2c_j0 = w2c_l4;
   w2c_i0 = (u32)(w2c_j0);
   w2c_i0 = i32_load8_u(&instance->w2c_memory, (u64)(w2c_i0) + 600u);
@@ -72562,7 +73215,7 @@ static u64 w2c_f77(Z_dine_ffi_instance_t* instance, u64 w2c_p0, u32 w2c_p1, u64 
   if (w2c_i0) {goto w2c_B7;}
   goto w2c_B6;
   w2c_B11:;
-  w2c_i0 = w2c_l24;
+  w2c_i0 = w2c_l23;
   if (w2c_i0) {goto w2c_B25;}
   w2c_j0 = w2c_l5;
   w2c_i0 = (u32)(w2c_j0);
@@ -72583,7 +73236,7 @@ static u64 w2c_f77(Z_dine_ffi_instance_t* instance, u64 w2c_p0, u32 w2c_p1, u64 
   w2c_j0 = w2c_l4;
   w2c_i0 = (u32)(w2c_j0);
   w2c_j0 = i64_load(&instance->w2c_memory, (u64)(w2c_i0) + 880u);
-  w2c_l10 = w2c_j0;
+  w2c_l9 = w2c_j0;
   w2c_j0 = w2c_l4;
   w2c_i0 = (u32)(w2c_j0);
   w2c_j0 = i64_load(&instance->w2c_memory, (u64)(w2c_i0) + 864u);
@@ -72636,13 +73289,13 @@ static u64 w2c_f77(Z_dine_ffi_instance_t* instance, u64 w2c_p0, u32 w2c_p1, u64 
       w2c_i0 = w2c_j0 != w2c_j1;
       if (w2c_i0) {goto w2c_L27;}
   }
-  w2c_j0 = w2c_l10;
+  w2c_j0 = w2c_l9;
   w2c_i0 = !(w2c_j0);
   if (w2c_i0) {goto w2c_B6;}
   w2c_B10:;
   w2c_j0 = w2c_l12;
   w2c_leave(instance, w2c_j0);
-  w2c_j0 = w2c_l9;
+  w2c_j0 = w2c_l10;
   w2c_f1(instance, w2c_j0);
   goto w2c_B3;
   w2c_B9:;
@@ -72701,7 +73354,7 @@ static u64 w2c_f77(Z_dine_ffi_instance_t* instance, u64 w2c_p0, u32 w2c_p1, u64 
   w2c_i0 = !(w2c_j0);
   w2c_i0 = !(w2c_i0);
   if (w2c_i0) {
-    w2c_j0 = w2c_l13;
+    w2c_j0 = w2c_l14;
     w2c_l5 = w2c_j0;
     w2c_L33: 
       w2c_j0 = w2c_l5;
@@ -72710,7 +73363,7 @@ static u64 w2c_f77(Z_dine_ffi_instance_t* instance, u64 w2c_p0, u32 w2c_p1, u64 
       w2c_p3 = w2c_j0;
       w2c_i0 = (u32)(w2c_j0);
       w2c_j0 = i64_load(&instance->w2c_memory, (u64)(w2c_i0) + 48u);
-      w2c_l10 = w2c_j0;
+      w2c_l9 = w2c_j0;
       w2c_j0 = w2c_p3;
       w2c_i0 = (u32)(w2c_j0);
       w2c_j0 = i64_load(&instance->w2c_memory, (u64)(w2c_i0) + 64u);
@@ -72721,7 +73374,7 @@ static u64 w2c_f77(Z_dine_ffi_instance_t* instance, u64 w2c_p0, u32 w2c_p1, u64 
       w2c_i0 = !(w2c_j0);
       w2c_i0 = !(w2c_i0);
       if (w2c_i0) {
-        w2c_j0 = w2c_l10;
+        w2c_j0 = w2c_l9;
         w2c_leave(instance, w2c_j0);
       }
       w2c_j0 = w2c_l5;
@@ -72740,7 +73393,7 @@ static u64 w2c_f77(Z_dine_ffi_instance_t* instance, u64 w2c_p0, u32 w2c_p1, u64 
   w2c_i0 = !(w2c_j0);
   w2c_i0 = !(w2c_i0);
   if (w2c_i0) {
-    w2c_j0 = w2c_l13;
+    w2c_j0 = w2c_l14;
     w2c_leave(instance, w2c_j0);
   }
   w2c_j0 = w2c_l6;
@@ -72795,7 +73448,7 @@ static u64 w2c_f77(Z_dine_ffi_instance_t* instance, u64 w2c_p0, u32 w2c_p1, u64 
   w2c_j0 = w2c_l11;
   w2c_leave(instance, w2c_j0);
   w2c_B6:;
-  w2c_j0 = w2c_l9;
+  w2c_j0 = w2c_l10;
   w2c_f1(instance, w2c_j0);
   goto w2c_B3;
   w2c_B5:;
@@ -72839,7 +73492,7 @@ static u64 w2c_f77(Z_dine_ffi_instance_t* instance, u64 w2c_p0, u32 w2c_p1, u64 
   i64_store(&instance->w2c_memory, (u64)(w2c_i0) + 56, w2c_j1);
   w2c_j0 = w2c_l4;
   w2c_i0 = (u32)(w2c_j0);
-  w2c_j1 = w2c_l9;
+  w2c_j1 = w2c_l10;
   i64_store(&instance->w2c_memory, (u64)(w2c_i0) + 48, w2c_j1);
   w2c_j0 = w2c_l4;
   w2c_i0 = (u32)(w2c_j0);
@@ -72900,7 +73553,7 @@ static u64 w2c_f77(Z_dine_ffi_instance_t* instance, u64 w2c_p0, u32 w2c_p1, u64 
   w2c_j0 += w2c_j1;
   w2c_j1 = w2c_p3;
   w2c_j0 = w2c_f0(instance, w2c_j0, w2c_j1);
-  w2c_l14 = w2c_j0;
+  w2c_l13 = w2c_j0;
   w2c_B3:;
   w2c_j0 = w2c_p0;
   w2c_i0 = (u32)(w2c_j0);
@@ -72915,15 +73568,15 @@ static u64 w2c_f77(Z_dine_ffi_instance_t* instance, u64 w2c_p0, u32 w2c_p1, u64 
   w2c_j1 = 896ull;
   w2c_j0 += w2c_j1;
   instance->w2c_g0 = w2c_j0;
-  w2c_j0 = w2c_l14;
+  w2c_j0 = w2c_l13;
   FUNC_EPILOGUE;
   return w2c_j0;
 }
 
-static void w2c_f78(Z_dine_ffi_instance_t* instance, u64 w2c_p0, u64 w2c_p1, u32 w2c_p2) {
-  u32 w2c_l17 = 0;
+static void w2c_f79(Z_dine_ffi_instance_t* instance, u64 w2c_p0, u64 w2c_p1, u32 w2c_p2) {
+  u32 w2c_l15 = 0, w2c_l16 = 0, w2c_l17 = 0;
   u64 w2c_l3 = 0, w2c_l4 = 0, w2c_l5 = 0, w2c_l6 = 0, w2c_l7 = 0, w2c_l8 = 0, w2c_l9 = 0, w2c_l10 = 0, 
-      w2c_l11 = 0, w2c_l12 = 0, w2c_l13 = 0, w2c_l14 = 0, w2c_l15 = 0, w2c_l16 = 0;
+      w2c_l11 = 0, w2c_l12 = 0, w2c_l13 = 0, w2c_l14 = 0;
   FUNC_PROLOGUE;
   u32 w2c_i0, w2c_i1, w2c_i2, w2c_i3;
   u64 w2c_j0, w2c_j1, w2c_j2, w2c_j3, w2c_j4;
@@ -73016,7 +73669,7 @@ static void w2c_f78(Z_dine_ffi_instance_t* instance, u64 w2c_p0, u64 w2c_p1, u32
         w2c_j0 += w2c_j1;
         w2c_i0 = (u32)(w2c_j0);
         w2c_j0 = i64_load(&instance->w2c_memory, (u64)(w2c_i0));
-        w2c_l10 = w2c_j0;
+        w2c_l14 = w2c_j0;
         w2c_j0 = w2c_l3;
         w2c_j1 = 24ull;
         w2c_j0 += w2c_j1;
@@ -73026,36 +73679,48 @@ static void w2c_f78(Z_dine_ffi_instance_t* instance, u64 w2c_p0, u64 w2c_p1, u32
         w2c_l4 = w2c_j1;
         w2c_j2 = w2c_l12;
         w2c_j1 += w2c_j2;
-        w2c_j2 = 32ull;
+        w2c_l10 = w2c_j1;
+        w2c_j2 = 48ull;
         w2c_j1 += w2c_j2;
         w2c_i1 = (u32)(w2c_j1);
-        w2c_j1 = i64_load(&instance->w2c_memory, (u64)(w2c_i1));
-        w2c_l14 = w2c_j1;
-        w2c_j2 = 4294967295ull;
-        w2c_j1 &= w2c_j2;
+        w2c_i1 = i32_load(&instance->w2c_memory, (u64)(w2c_i1));
+        w2c_j2 = w2c_l10;
+        w2c_j3 = 32ull;
+        w2c_j2 += w2c_j3;
+        w2c_i2 = (u32)(w2c_j2);
+        w2c_i2 = i32_load(&instance->w2c_memory, (u64)(w2c_i2));
+        w2c_i1 += w2c_i2;
+        w2c_l15 = w2c_i1;
+        w2c_j1 = (u64)(w2c_i1);
         w2c_j2 = w2c_l4;
         w2c_j3 = w2c_l6;
         w2c_i3 = (u32)(w2c_j3);
         w2c_i3 = i32_load(&instance->w2c_memory, (u64)(w2c_i3) + 4u);
-        w2c_l17 = w2c_i3;
+        w2c_l16 = w2c_i3;
         w2c_j3 = (u64)(w2c_i3);
         w2c_j4 = 56ull;
         w2c_j3 *= w2c_j4;
         w2c_j2 += w2c_j3;
-        w2c_j3 = 32ull;
+        w2c_l4 = w2c_j2;
+        w2c_j3 = 48ull;
         w2c_j2 += w2c_j3;
         w2c_i2 = (u32)(w2c_j2);
-        w2c_j2 = i64_load(&instance->w2c_memory, (u64)(w2c_i2));
-        w2c_l15 = w2c_j2;
-        w2c_j3 = 4294967295ull;
-        w2c_j2 &= w2c_j3;
+        w2c_i2 = i32_load(&instance->w2c_memory, (u64)(w2c_i2));
+        w2c_j3 = w2c_l4;
+        w2c_j4 = 32ull;
+        w2c_j3 += w2c_j4;
+        w2c_i3 = (u32)(w2c_j3);
+        w2c_i3 = i32_load(&instance->w2c_memory, (u64)(w2c_i3));
+        w2c_i2 += w2c_i3;
+        w2c_l17 = w2c_i2;
+        w2c_j2 = (u64)(w2c_i2);
         w2c_j1 += w2c_j2;
         w2c_j2 = 1ull;
         w2c_j1 += w2c_j2;
-        w2c_l16 = w2c_j1;
+        w2c_l10 = w2c_j1;
         w2c_j2 = 12ull;
         w2c_j1 *= w2c_j2;
-        w2c_f136(instance, w2c_j0, w2c_j1);
+        w2c_f140(instance, w2c_j0, w2c_j1);
         w2c_j0 = w2c_l3;
         w2c_i0 = (u32)(w2c_j0);
         w2c_i0 = i32_load(&instance->w2c_memory, (u64)(w2c_i0) + 24u);
@@ -73077,7 +73742,7 @@ static void w2c_f78(Z_dine_ffi_instance_t* instance, u64 w2c_p0, u64 w2c_p1, u32
           w2c_j1 = 8ull;
           w2c_j0 += w2c_j1;
           w2c_j1 = 72ull;
-          w2c_f136(instance, w2c_j0, w2c_j1);
+          w2c_f140(instance, w2c_j0, w2c_j1);
           w2c_j0 = w2c_l3;
           w2c_i0 = (u32)(w2c_j0);
           w2c_j0 = i64_load(&instance->w2c_memory, (u64)(w2c_i0) + 8u);
@@ -73200,15 +73865,15 @@ static void w2c_f78(Z_dine_ffi_instance_t* instance, u64 w2c_p0, u64 w2c_p1, u32
         i32_store(&instance->w2c_memory, (u64)(w2c_i0) + 20, w2c_i1);
         w2c_j0 = w2c_l4;
         w2c_i0 = (u32)(w2c_j0);
-        w2c_j1 = w2c_l15;
-        i64_store32(&instance->w2c_memory, (u64)(w2c_i0) + 16, w2c_j1);
-        w2c_j0 = w2c_l4;
-        w2c_i0 = (u32)(w2c_j0);
-        w2c_j1 = w2c_l14;
-        i64_store32(&instance->w2c_memory, (u64)(w2c_i0) + 12, w2c_j1);
-        w2c_j0 = w2c_l4;
-        w2c_i0 = (u32)(w2c_j0);
         w2c_i1 = w2c_l17;
+        i32_store(&instance->w2c_memory, (u64)(w2c_i0) + 16, w2c_i1);
+        w2c_j0 = w2c_l4;
+        w2c_i0 = (u32)(w2c_j0);
+        w2c_i1 = w2c_l15;
+        i32_store(&instance->w2c_memory, (u64)(w2c_i0) + 12, w2c_i1);
+        w2c_j0 = w2c_l4;
+        w2c_i0 = (u32)(w2c_j0);
+        w2c_i1 = w2c_l16;
         i32_store(&instance->w2c_memory, (u64)(w2c_i0) + 8, w2c_i1);
         w2c_j0 = w2c_l4;
         w2c_i0 = (u32)(w2c_j0);
@@ -73222,7 +73887,7 @@ static void w2c_f78(Z_dine_ffi_instance_t* instance, u64 w2c_p0, u64 w2c_p1, u32
         i64_store(&instance->w2c_memory, (u64)(w2c_i0) + 32, w2c_j1);
         w2c_j0 = w2c_l4;
         w2c_i0 = (u32)(w2c_j0);
-        w2c_j1 = w2c_l16;
+        w2c_j1 = w2c_l10;
         i64_store(&instance->w2c_memory, (u64)(w2c_i0) + 64, w2c_j1);
         w2c_j0 = w2c_l4;
         w2c_i0 = (u32)(w2c_j0);
@@ -73234,7 +73899,7 @@ static void w2c_f78(Z_dine_ffi_instance_t* instance, u64 w2c_p0, u64 w2c_p1, u32
         i64_store(&instance->w2c_memory, (u64)(w2c_i0) + 48, w2c_j1);
         w2c_j0 = w2c_l4;
         w2c_i0 = (u32)(w2c_j0);
-        w2c_j1 = w2c_l10;
+        w2c_j1 = w2c_l14;
         i64_store(&instance->w2c_memory, (u64)(w2c_i0) + 40, w2c_j1);
         w2c_j0 = w2c_l3;
         w2c_i0 = (u32)(w2c_j0);
@@ -73421,7 +74086,7 @@ static void w2c_f78(Z_dine_ffi_instance_t* instance, u64 w2c_p0, u64 w2c_p1, u32
   FUNC_EPILOGUE;
 }
 
-static void w2c_f79(Z_dine_ffi_instance_t* instance, u64 w2c_p0, u64 w2c_p1, u32 w2c_p2) {
+static void w2c_f80(Z_dine_ffi_instance_t* instance, u64 w2c_p0, u64 w2c_p1, u32 w2c_p2) {
   u32 w2c_l8 = 0;
   u64 w2c_l3 = 0, w2c_l4 = 0, w2c_l5 = 0, w2c_l6 = 0, w2c_l7 = 0;
   FUNC_PROLOGUE;
@@ -73615,9 +74280,9 @@ static void w2c_f79(Z_dine_ffi_instance_t* instance, u64 w2c_p0, u64 w2c_p1, u32
   FUNC_EPILOGUE;
 }
 
-static void w2c_f80(Z_dine_ffi_instance_t* instance, u64 w2c_p0, u64 w2c_p1, u32 w2c_p2, u64 w2c_p3, u64 w2c_p4) {
+static void w2c_f81(Z_dine_ffi_instance_t* instance, u64 w2c_p0, u64 w2c_p1, u32 w2c_p2, u64 w2c_p3, u64 w2c_p4) {
   u32 w2c_l25 = 0, w2c_l26 = 0, w2c_l27 = 0, w2c_l28 = 0, w2c_l29 = 0, w2c_l30 = 0, w2c_l31 = 0, w2c_l32 = 0, 
-      w2c_l33 = 0, w2c_l34 = 0;
+      w2c_l33 = 0, w2c_l34 = 0, w2c_l35 = 0, w2c_l36 = 0;
   u64 w2c_l5 = 0, w2c_l6 = 0, w2c_l7 = 0, w2c_l8 = 0, w2c_l9 = 0, w2c_l10 = 0, w2c_l11 = 0, w2c_l12 = 0, 
       w2c_l13 = 0, w2c_l14 = 0, w2c_l15 = 0, w2c_l16 = 0, w2c_l17 = 0, w2c_l18 = 0, w2c_l19 = 0, w2c_l20 = 0, 
       w2c_l21 = 0, w2c_l22 = 0, w2c_l23 = 0, w2c_l24 = 0;
@@ -73644,7 +74309,7 @@ static void w2c_f80(Z_dine_ffi_instance_t* instance, u64 w2c_p0, u64 w2c_p1, u32
   w2c_j0 = w2c_p4;
   w2c_i0 = (u32)(w2c_j0);
   w2c_j0 = i64_load(&instance->w2c_memory, (u64)(w2c_i0) + 8u);
-  w2c_l18 = w2c_j0;
+  w2c_l10 = w2c_j0;
   w2c_j0 = w2c_p4;
   w2c_i0 = (u32)(w2c_j0);
   w2c_j0 = i64_load(&instance->w2c_memory, (u64)(w2c_i0));
@@ -73656,11 +74321,11 @@ static void w2c_f80(Z_dine_ffi_instance_t* instance, u64 w2c_p0, u64 w2c_p1, u32
   w2c_j0 = w2c_p3;
   w2c_i0 = (u32)(w2c_j0);
   w2c_j0 = i64_load(&instance->w2c_memory, (u64)(w2c_i0) + 8u);
-  w2c_l6 = w2c_j0;
+  w2c_l7 = w2c_j0;
   w2c_j0 = w2c_p3;
   w2c_i0 = (u32)(w2c_j0);
   w2c_j0 = i64_load(&instance->w2c_memory, (u64)(w2c_i0));
-  w2c_l15 = w2c_j0;
+  w2c_l13 = w2c_j0;
   w2c_j0 = w2c_l5;
   w2c_i0 = (u32)(w2c_j0);
   w2c_j1 = 0ull;
@@ -73741,7 +74406,7 @@ static void w2c_f80(Z_dine_ffi_instance_t* instance, u64 w2c_p0, u64 w2c_p1, u32
     w2c_j0 = w2c_l5;
     w2c_j1 = 240ull;
     w2c_j0 += w2c_j1;
-    w2c_l13 = w2c_j0;
+    w2c_l14 = w2c_j0;
     goto w2c_B1;
   }
   w2c_j0 = w2c_l12;
@@ -73758,7 +74423,7 @@ static void w2c_f80(Z_dine_ffi_instance_t* instance, u64 w2c_p0, u64 w2c_p1, u32
   w2c_j1 = w2c_l12;
   w2c_j2 = 56ull;
   w2c_j1 *= w2c_j2;
-  w2c_f136(instance, w2c_j0, w2c_j1);
+  w2c_f140(instance, w2c_j0, w2c_j1);
   w2c_j0 = w2c_l5;
   w2c_i0 = (u32)(w2c_j0);
   w2c_j0 = i64_load(&instance->w2c_memory, (u64)(w2c_i0) + 64u);
@@ -73770,7 +74435,7 @@ static void w2c_f80(Z_dine_ffi_instance_t* instance, u64 w2c_p0, u64 w2c_p1, u32
   w2c_j0 = w2c_l5;
   w2c_i0 = (u32)(w2c_j0);
   w2c_j0 = i64_load(&instance->w2c_memory, (u64)(w2c_i0) + 72u);
-  w2c_l14 = w2c_j0;
+  w2c_l15 = w2c_j0;
   w2c_j0 = w2c_l5;
   w2c_i0 = (u32)(w2c_j0);
   w2c_j1 = 0ull;
@@ -73805,16 +74470,16 @@ static void w2c_f80(Z_dine_ffi_instance_t* instance, u64 w2c_p0, u64 w2c_p1, u32
   i64_store(&instance->w2c_memory, (u64)(w2c_i0) + 280, w2c_j1);
   w2c_j0 = w2c_l5;
   w2c_i0 = (u32)(w2c_j0);
-  w2c_j1 = w2c_l14;
+  w2c_j1 = w2c_l15;
   i64_store(&instance->w2c_memory, (u64)(w2c_i0) + 216, w2c_j1);
   w2c_j0 = w2c_l5;
   w2c_j1 = 240ull;
   w2c_j0 += w2c_j1;
-  w2c_l13 = w2c_j0;
+  w2c_l14 = w2c_j0;
   w2c_j0 = w2c_p1;
   w2c_j1 = 8ull;
   w2c_j0 += w2c_j1;
-  w2c_l19 = w2c_j0;
+  w2c_l18 = w2c_j0;
   w2c_j0 = 0ull;
   w2c_p3 = w2c_j0;
   w2c_L6: 
@@ -73838,7 +74503,7 @@ static void w2c_f80(Z_dine_ffi_instance_t* instance, u64 w2c_p0, u64 w2c_p1, u32
     w2c_j0 = (u64)(w2c_i0);
     w2c_j1 = 56ull;
     w2c_j0 *= w2c_j1;
-    w2c_l7 = w2c_j0;
+    w2c_l6 = w2c_j0;
     w2c_j0 = w2c_p4;
     w2c_i0 = (u32)(w2c_j0);
     w2c_i0 = i32_load(&instance->w2c_memory, (u64)(w2c_i0));
@@ -73846,57 +74511,57 @@ static void w2c_f80(Z_dine_ffi_instance_t* instance, u64 w2c_p0, u64 w2c_p1, u32
     w2c_j0 = (u64)(w2c_i0);
     w2c_j1 = 56ull;
     w2c_j0 *= w2c_j1;
-    w2c_l11 = w2c_j0;
+    w2c_l9 = w2c_j0;
     w2c_i0 = 1u;
     w2c_l30 = w2c_i0;
     w2c_i0 = w2c_p2;
     w2c_i1 = w2c_l25;
     w2c_i0 = w2c_i0 != w2c_i1;
     if (w2c_i0) {goto w2c_B8;}
-    w2c_j0 = w2c_l6;
+    w2c_j0 = w2c_l7;
     w2c_i0 = !(w2c_j0);
     if (w2c_i0) {
       w2c_j0 = 0ull;
-      w2c_l6 = w2c_j0;
+      w2c_l7 = w2c_j0;
       goto w2c_B8;
     }
-    w2c_j0 = w2c_l6;
+    w2c_j0 = w2c_l7;
     w2c_j1 = 1ull;
     w2c_j0 -= w2c_j1;
-    w2c_l6 = w2c_j0;
-    w2c_j0 = w2c_l15;
-    w2c_j1 = w2c_l10;
+    w2c_l7 = w2c_j0;
+    w2c_j0 = w2c_l13;
+    w2c_j1 = w2c_l11;
     w2c_j2 = 3ull;
     w2c_j1 <<= (w2c_j2 & 63);
     w2c_j0 += w2c_j1;
     w2c_i0 = (u32)(w2c_j0);
     w2c_j0 = i64_load(&instance->w2c_memory, (u64)(w2c_i0));
-    w2c_l9 = w2c_j0;
+    w2c_l16 = w2c_j0;
     w2c_i0 = 0u;
     w2c_l30 = w2c_i0;
-    w2c_j0 = w2c_l10;
+    w2c_j0 = w2c_l11;
     w2c_j1 = 1ull;
     w2c_j0 += w2c_j1;
-    w2c_l10 = w2c_j0;
+    w2c_l11 = w2c_j0;
     w2c_i0 = 1u;
     goto w2c_B7;
     w2c_B8:;
     w2c_j0 = 0ull;
-    w2c_l9 = w2c_j0;
+    w2c_l16 = w2c_j0;
     w2c_i0 = 0u;
     w2c_B7:;
     w2c_l27 = w2c_i0;
-    w2c_j0 = w2c_l19;
+    w2c_j0 = w2c_l18;
     w2c_i0 = (u32)(w2c_j0);
     w2c_j0 = i64_load(&instance->w2c_memory, (u64)(w2c_i0));
     w2c_p4 = w2c_j0;
-    w2c_j1 = w2c_l7;
+    w2c_j1 = w2c_l6;
     w2c_j0 += w2c_j1;
-    w2c_l7 = w2c_j0;
+    w2c_l6 = w2c_j0;
     w2c_j0 = w2c_p4;
-    w2c_j1 = w2c_l11;
+    w2c_j1 = w2c_l9;
     w2c_j0 += w2c_j1;
-    w2c_l11 = w2c_j0;
+    w2c_l9 = w2c_j0;
     w2c_i0 = 0u;
     w2c_l28 = w2c_i0;
     w2c_i0 = w2c_p2;
@@ -73907,31 +74572,31 @@ static void w2c_f80(Z_dine_ffi_instance_t* instance, u64 w2c_p0, u64 w2c_p1, u32
       w2c_l29 = w2c_i0;
       goto w2c_B11;
     }
-    w2c_j0 = w2c_l18;
+    w2c_j0 = w2c_l10;
     w2c_i0 = !(w2c_j0);
     if (w2c_i0) {
       w2c_i0 = 0u;
       w2c_l29 = w2c_i0;
       w2c_j0 = 0ull;
-      w2c_l18 = w2c_j0;
+      w2c_l10 = w2c_j0;
       goto w2c_B11;
     }
-    w2c_j0 = w2c_l18;
+    w2c_j0 = w2c_l10;
     w2c_j1 = 1ull;
     w2c_j0 -= w2c_j1;
-    w2c_l18 = w2c_j0;
+    w2c_l10 = w2c_j0;
     w2c_j0 = w2c_l20;
-    w2c_j1 = w2c_l16;
+    w2c_j1 = w2c_l23;
     w2c_j2 = 2ull;
     w2c_j1 <<= (w2c_j2 & 63);
     w2c_j0 += w2c_j1;
     w2c_i0 = (u32)(w2c_j0);
     w2c_i0 = i32_load(&instance->w2c_memory, (u64)(w2c_i0));
     w2c_l31 = w2c_i0;
-    w2c_j0 = w2c_l16;
+    w2c_j0 = w2c_l23;
     w2c_j1 = 1ull;
     w2c_j0 += w2c_j1;
-    w2c_l16 = w2c_j0;
+    w2c_l23 = w2c_j0;
     w2c_i0 = 1u;
     w2c_l29 = w2c_i0;
     w2c_i0 = 1u;
@@ -73942,14 +74607,22 @@ static void w2c_f80(Z_dine_ffi_instance_t* instance, u64 w2c_p0, u64 w2c_p1, u32
     w2c_i0 = 0u;
     w2c_B10:;
     w2c_l33 = w2c_i0;
-    w2c_j0 = w2c_l7;
+    w2c_j0 = w2c_l6;
     w2c_j1 = 32ull;
     w2c_j0 += w2c_j1;
-    w2c_l7 = w2c_j0;
-    w2c_j0 = w2c_l11;
+    w2c_l17 = w2c_j0;
+    w2c_j0 = w2c_l9;
     w2c_j1 = 32ull;
     w2c_j0 += w2c_j1;
-    w2c_l11 = w2c_j0;
+    w2c_l19 = w2c_j0;
+    w2c_j0 = w2c_l6;
+    w2c_j1 = 48ull;
+    w2c_j0 += w2c_j1;
+    w2c_l6 = w2c_j0;
+    w2c_j0 = w2c_l9;
+    w2c_j1 = 48ull;
+    w2c_j0 += w2c_j1;
+    w2c_l9 = w2c_j0;
     w2c_j0 = w2c_p4;
     w2c_i1 = w2c_l26;
     w2c_i2 = w2c_l25;
@@ -73961,35 +74634,43 @@ static void w2c_f80(Z_dine_ffi_instance_t* instance, u64 w2c_p0, u64 w2c_p1, u32
     w2c_j2 = 56ull;
     w2c_j1 *= w2c_j2;
     w2c_j0 += w2c_j1;
-    w2c_j1 = 48ull;
+    w2c_j1 = 52ull;
     w2c_j0 += w2c_j1;
     w2c_p4 = w2c_j0;
     w2c_i0 = w2c_l27;
     if (w2c_i0) {
-      w2c_j0 = w2c_l9;
+      w2c_j0 = w2c_l16;
       w2c_j1 = 24ull;
       w2c_j0 += w2c_j1;
       w2c_i0 = (u32)(w2c_j0);
       w2c_i0 = i32_load8_u(&instance->w2c_memory, (u64)(w2c_i0));
       w2c_l28 = w2c_i0;
     }
-    w2c_j0 = w2c_l7;
-    w2c_i0 = (u32)(w2c_j0);
-    w2c_j0 = i64_load(&instance->w2c_memory, (u64)(w2c_i0));
-    w2c_l23 = w2c_j0;
-    w2c_j0 = w2c_l11;
+    w2c_j0 = w2c_l17;
     w2c_i0 = (u32)(w2c_j0);
     w2c_j0 = i64_load(&instance->w2c_memory, (u64)(w2c_i0));
     w2c_l17 = w2c_j0;
+    w2c_j0 = w2c_l19;
+    w2c_i0 = (u32)(w2c_j0);
+    w2c_j0 = i64_load(&instance->w2c_memory, (u64)(w2c_i0));
+    w2c_l19 = w2c_j0;
+    w2c_j0 = w2c_l6;
+    w2c_i0 = (u32)(w2c_j0);
+    w2c_i0 = i32_load(&instance->w2c_memory, (u64)(w2c_i0));
+    w2c_l34 = w2c_i0;
     w2c_j0 = w2c_l9;
+    w2c_i0 = (u32)(w2c_j0);
+    w2c_i0 = i32_load(&instance->w2c_memory, (u64)(w2c_i0));
+    w2c_l35 = w2c_i0;
+    w2c_j0 = w2c_l16;
     w2c_j1 = 0ull;
     w2c_i2 = w2c_l27;
     w2c_j0 = w2c_i2 ? w2c_j0 : w2c_j1;
-    w2c_l11 = w2c_j0;
+    w2c_l9 = w2c_j0;
     w2c_j0 = w2c_p4;
     w2c_i0 = (u32)(w2c_j0);
     w2c_i0 = i32_load8_u(&instance->w2c_memory, (u64)(w2c_i0));
-    w2c_l34 = w2c_i0;
+    w2c_l36 = w2c_i0;
     w2c_j0 = w2c_l5;
     w2c_i0 = (u32)(w2c_j0);
     w2c_i1 = 0u;
@@ -73999,7 +74680,7 @@ static void w2c_f80(Z_dine_ffi_instance_t* instance, u64 w2c_p0, u64 w2c_p1, u32
     w2c_i1 = 0u;
     i32_store16(&instance->w2c_memory, (u64)(w2c_i0) + 292, w2c_i1);
     w2c_j0 = w2c_p3;
-    w2c_l7 = w2c_j0;
+    w2c_l6 = w2c_j0;
     w2c_j0 = w2c_p3;
     w2c_j1 = w2c_l5;
     w2c_i1 = (u32)(w2c_j1);
@@ -74015,29 +74696,35 @@ static void w2c_f80(Z_dine_ffi_instance_t* instance, u64 w2c_p0, u64 w2c_p1, u32
       w2c_j0 = w2c_l5;
       w2c_i0 = (u32)(w2c_j0);
       w2c_j0 = i64_load(&instance->w2c_memory, (u64)(w2c_i0) + 216u);
-      w2c_l14 = w2c_j0;
+      w2c_l15 = w2c_j0;
       w2c_j0 = w2c_l5;
       w2c_i0 = (u32)(w2c_j0);
       w2c_j0 = i64_load(&instance->w2c_memory, (u64)(w2c_i0) + 224u);
-      w2c_l7 = w2c_j0;
+      w2c_l6 = w2c_j0;
     }
-    w2c_j0 = w2c_l14;
-    w2c_j1 = w2c_l7;
+    w2c_j0 = w2c_l15;
+    w2c_j1 = w2c_l6;
     w2c_j2 = 56ull;
     w2c_j1 *= w2c_j2;
     w2c_j0 += w2c_j1;
     w2c_p4 = w2c_j0;
     w2c_i0 = (u32)(w2c_j0);
-    w2c_i1 = w2c_l34;
+    w2c_i1 = w2c_l36;
     i32_store8(&instance->w2c_memory, (u64)(w2c_i0) + 20, w2c_i1);
     w2c_j0 = w2c_p4;
     w2c_i0 = (u32)(w2c_j0);
-    w2c_j1 = w2c_l23;
-    i64_store32(&instance->w2c_memory, (u64)(w2c_i0) + 16, w2c_j1);
+    w2c_i1 = w2c_l34;
+    w2c_j2 = w2c_l17;
+    w2c_i2 = (u32)(w2c_j2);
+    w2c_i1 += w2c_i2;
+    i32_store(&instance->w2c_memory, (u64)(w2c_i0) + 16, w2c_i1);
     w2c_j0 = w2c_p4;
     w2c_i0 = (u32)(w2c_j0);
-    w2c_j1 = w2c_l17;
-    i64_store32(&instance->w2c_memory, (u64)(w2c_i0) + 12, w2c_j1);
+    w2c_i1 = w2c_l35;
+    w2c_j2 = w2c_l19;
+    w2c_i2 = (u32)(w2c_j2);
+    w2c_i1 += w2c_i2;
+    i32_store(&instance->w2c_memory, (u64)(w2c_i0) + 12, w2c_i1);
     w2c_j0 = w2c_p4;
     w2c_i0 = (u32)(w2c_j0);
     w2c_i1 = w2c_l26;
@@ -74060,7 +74747,7 @@ static void w2c_f80(Z_dine_ffi_instance_t* instance, u64 w2c_p0, u64 w2c_p1, u32
     i32_store(&instance->w2c_memory, (u64)(w2c_i0) + 44, w2c_i1);
     w2c_j0 = w2c_p4;
     w2c_i0 = (u32)(w2c_j0);
-    w2c_j1 = w2c_l11;
+    w2c_j1 = w2c_l9;
     i64_store(&instance->w2c_memory, (u64)(w2c_i0) + 32, w2c_j1);
     w2c_j0 = w2c_p4;
     w2c_i0 = (u32)(w2c_j0);
@@ -74112,10 +74799,10 @@ static void w2c_f80(Z_dine_ffi_instance_t* instance, u64 w2c_p0, u64 w2c_p1, u32
     i32_store8(&instance->w2c_memory, (u64)(w2c_i0) + 23, w2c_i1);
     w2c_j0 = w2c_l5;
     w2c_i0 = (u32)(w2c_j0);
-    w2c_j1 = w2c_l7;
+    w2c_j1 = w2c_l6;
     w2c_j2 = 1ull;
     w2c_j1 += w2c_j2;
-    w2c_l7 = w2c_j1;
+    w2c_l6 = w2c_j1;
     i64_store(&instance->w2c_memory, (u64)(w2c_i0) + 224, w2c_j1);
     w2c_j0 = 1ull;
     w2c_j1 = w2c_p3;
@@ -74216,7 +74903,7 @@ static void w2c_f80(Z_dine_ffi_instance_t* instance, u64 w2c_p0, u64 w2c_p1, u32
     w2c_j1 = 4ull;
     w2c_j0 += w2c_j1;
     w2c_l8 = w2c_j0;
-    w2c_j0 = w2c_l7;
+    w2c_j0 = w2c_l6;
     w2c_p3 = w2c_j0;
     w2c_j0 = w2c_l12;
     w2c_j1 = 1ull;
@@ -74229,15 +74916,15 @@ static void w2c_f80(Z_dine_ffi_instance_t* instance, u64 w2c_p0, u64 w2c_p1, u32
   w2c_i0 = w2c_l27;
   w2c_i0 = !(w2c_i0);
   if (w2c_i0) {goto w2c_B23;}
-  w2c_j0 = w2c_l9;
+  w2c_j0 = w2c_l16;
   w2c_i0 = (u32)(w2c_j0);
   w2c_j0 = i64_load(&instance->w2c_memory, (u64)(w2c_i0) + 48u);
   w2c_p3 = w2c_j0;
-  w2c_j0 = w2c_l9;
+  w2c_j0 = w2c_l16;
   w2c_i0 = (u32)(w2c_j0);
   w2c_j0 = i64_load(&instance->w2c_memory, (u64)(w2c_i0) + 64u);
   w2c_p4 = w2c_j0;
-  w2c_j0 = w2c_l11;
+  w2c_j0 = w2c_l9;
   w2c_leave(instance, w2c_j0);
   w2c_j0 = w2c_p4;
   w2c_i0 = !(w2c_j0);
@@ -74258,7 +74945,7 @@ static void w2c_f80(Z_dine_ffi_instance_t* instance, u64 w2c_p0, u64 w2c_p1, u32
   i64_store(&instance->w2c_memory, (u64)(w2c_i0) + 208, w2c_j1);
   w2c_j0 = w2c_l5;
   w2c_i0 = (u32)(w2c_j0);
-  w2c_j1 = w2c_l10;
+  w2c_j1 = w2c_l11;
   i64_store(&instance->w2c_memory, (u64)(w2c_i0) + 200, w2c_j1);
   w2c_j0 = w2c_l5;
   w2c_i0 = (u32)(w2c_j0);
@@ -74266,16 +74953,16 @@ static void w2c_f80(Z_dine_ffi_instance_t* instance, u64 w2c_p0, u64 w2c_p1, u32
   i64_store(&instance->w2c_memory, (u64)(w2c_i0) + 192, w2c_j1);
   w2c_j0 = w2c_l5;
   w2c_i0 = (u32)(w2c_j0);
-  w2c_j1 = w2c_l6;
+  w2c_j1 = w2c_l7;
   i64_store(&instance->w2c_memory, (u64)(w2c_i0) + 184, w2c_j1);
   w2c_j0 = w2c_l5;
   w2c_i0 = (u32)(w2c_j0);
-  w2c_j1 = w2c_l15;
+  w2c_j1 = w2c_l13;
   i64_store(&instance->w2c_memory, (u64)(w2c_i0) + 176, w2c_j1);
   w2c_j0 = w2c_l5;
   w2c_j1 = 176ull;
   w2c_j0 += w2c_j1;
-  w2c_f81(instance, w2c_j0);
+  w2c_f82(instance, w2c_j0);
   w2c_j0 = w2c_l5;
   w2c_i0 = (u32)(w2c_j0);
   w2c_j0 = i64_load(&instance->w2c_memory, (u64)(w2c_i0) + 232u);
@@ -74283,7 +74970,7 @@ static void w2c_f80(Z_dine_ffi_instance_t* instance, u64 w2c_p0, u64 w2c_p1, u32
   w2c_j0 = w2c_l5;
   w2c_i0 = (u32)(w2c_j0);
   w2c_j0 = i64_load(&instance->w2c_memory, (u64)(w2c_i0) + 216u);
-  w2c_l15 = w2c_j0;
+  w2c_l13 = w2c_j0;
   w2c_j0 = w2c_l5;
   w2c_i0 = (u32)(w2c_j0);
   w2c_j0 = i64_load(&instance->w2c_memory, (u64)(w2c_i0) + 224u);
@@ -74291,7 +74978,7 @@ static void w2c_f80(Z_dine_ffi_instance_t* instance, u64 w2c_p0, u64 w2c_p1, u32
   w2c_i0 = !(w2c_j0);
   w2c_i0 = !(w2c_i0);
   if (w2c_i0) {
-    w2c_j0 = w2c_l15;
+    w2c_j0 = w2c_l13;
     w2c_j1 = 32ull;
     w2c_j0 += w2c_j1;
     w2c_p4 = w2c_j0;
@@ -74307,20 +74994,20 @@ static void w2c_f80(Z_dine_ffi_instance_t* instance, u64 w2c_p0, u64 w2c_p1, u32
       w2c_j0 = w2c_p4;
       w2c_i0 = (u32)(w2c_j0);
       w2c_j0 = i64_load(&instance->w2c_memory, (u64)(w2c_i0));
-      w2c_l6 = w2c_j0;
+      w2c_l7 = w2c_j0;
       w2c_i0 = (u32)(w2c_j0);
       w2c_j0 = i64_load(&instance->w2c_memory, (u64)(w2c_i0) + 48u);
-      w2c_l7 = w2c_j0;
-      w2c_j0 = w2c_l6;
+      w2c_l6 = w2c_j0;
+      w2c_j0 = w2c_l7;
       w2c_i0 = (u32)(w2c_j0);
       w2c_j0 = i64_load(&instance->w2c_memory, (u64)(w2c_i0) + 64u);
       w2c_l8 = w2c_j0;
-      w2c_j0 = w2c_l6;
+      w2c_j0 = w2c_l7;
       w2c_leave(instance, w2c_j0);
       w2c_j0 = w2c_l8;
       w2c_i0 = !(w2c_j0);
       if (w2c_i0) {goto w2c_B27;}
-      w2c_j0 = w2c_l7;
+      w2c_j0 = w2c_l6;
       w2c_leave(instance, w2c_j0);
       w2c_B27:;
       w2c_j0 = w2c_p4;
@@ -74348,11 +75035,11 @@ static void w2c_f80(Z_dine_ffi_instance_t* instance, u64 w2c_p0, u64 w2c_p1, u32
     w2c_j0 = w2c_l20;
     w2c_leave(instance, w2c_j0);
   }
-  w2c_j0 = w2c_l6;
+  w2c_j0 = w2c_l7;
   w2c_i0 = !(w2c_j0);
   w2c_i0 = !(w2c_i0);
   if (w2c_i0) {
-    w2c_j0 = w2c_l15;
+    w2c_j0 = w2c_l13;
     w2c_p4 = w2c_j0;
     w2c_L30: 
       w2c_j0 = w2c_p4;
@@ -74361,7 +75048,7 @@ static void w2c_f80(Z_dine_ffi_instance_t* instance, u64 w2c_p0, u64 w2c_p1, u32
       w2c_p3 = w2c_j0;
       w2c_i0 = (u32)(w2c_j0);
       w2c_j0 = i64_load(&instance->w2c_memory, (u64)(w2c_i0) + 48u);
-      w2c_l7 = w2c_j0;
+      w2c_l6 = w2c_j0;
       w2c_j0 = w2c_p3;
       w2c_i0 = (u32)(w2c_j0);
       w2c_j0 = i64_load(&instance->w2c_memory, (u64)(w2c_i0) + 64u);
@@ -74372,17 +75059,17 @@ static void w2c_f80(Z_dine_ffi_instance_t* instance, u64 w2c_p0, u64 w2c_p1, u32
       w2c_i0 = !(w2c_j0);
       w2c_i0 = !(w2c_i0);
       if (w2c_i0) {
-        w2c_j0 = w2c_l7;
+        w2c_j0 = w2c_l6;
         w2c_leave(instance, w2c_j0);
       }
       w2c_j0 = w2c_p4;
       w2c_j1 = 8ull;
       w2c_j0 += w2c_j1;
       w2c_p4 = w2c_j0;
-      w2c_j0 = w2c_l6;
+      w2c_j0 = w2c_l7;
       w2c_j1 = 1ull;
       w2c_j0 -= w2c_j1;
-      w2c_l6 = w2c_j0;
+      w2c_l7 = w2c_j0;
       w2c_j1 = 0ull;
       w2c_i0 = w2c_j0 != w2c_j1;
       if (w2c_i0) {goto w2c_L30;}
@@ -74391,7 +75078,7 @@ static void w2c_f80(Z_dine_ffi_instance_t* instance, u64 w2c_p0, u64 w2c_p1, u32
   w2c_i0 = !(w2c_j0);
   if (w2c_i0) {goto w2c_B3;}
   w2c_B4:;
-  w2c_j0 = w2c_l15;
+  w2c_j0 = w2c_l13;
   w2c_leave(instance, w2c_j0);
   w2c_B3:;
   w2c_j0 = w2c_p0;
@@ -74420,7 +75107,7 @@ static void w2c_f80(Z_dine_ffi_instance_t* instance, u64 w2c_p0, u64 w2c_p1, u32
   i64_store(&instance->w2c_memory, (u64)(w2c_i0) + 168, w2c_j1);
   w2c_j0 = w2c_l5;
   w2c_i0 = (u32)(w2c_j0);
-  w2c_j1 = w2c_l10;
+  w2c_j1 = w2c_l11;
   i64_store(&instance->w2c_memory, (u64)(w2c_i0) + 160, w2c_j1);
   w2c_j0 = w2c_l5;
   w2c_i0 = (u32)(w2c_j0);
@@ -74428,56 +75115,56 @@ static void w2c_f80(Z_dine_ffi_instance_t* instance, u64 w2c_p0, u64 w2c_p1, u32
   i64_store(&instance->w2c_memory, (u64)(w2c_i0) + 152, w2c_j1);
   w2c_j0 = w2c_l5;
   w2c_i0 = (u32)(w2c_j0);
-  w2c_j1 = w2c_l6;
+  w2c_j1 = w2c_l7;
   i64_store(&instance->w2c_memory, (u64)(w2c_i0) + 144, w2c_j1);
   w2c_j0 = w2c_l5;
   w2c_i0 = (u32)(w2c_j0);
-  w2c_j1 = w2c_l15;
+  w2c_j1 = w2c_l13;
   i64_store(&instance->w2c_memory, (u64)(w2c_i0) + 136, w2c_j1);
   w2c_j0 = w2c_l5;
   w2c_j1 = 136ull;
   w2c_j0 += w2c_j1;
-  w2c_f81(instance, w2c_j0);
+  w2c_f82(instance, w2c_j0);
   w2c_j0 = w2c_l5;
   w2c_i0 = (u32)(w2c_j0);
-  w2c_j1 = w2c_l13;
+  w2c_j1 = w2c_l14;
   w2c_i1 = (u32)(w2c_j1);
   w2c_j1 = i64_load(&instance->w2c_memory, (u64)(w2c_i1));
   i64_store(&instance->w2c_memory, (u64)(w2c_i0) + 88, w2c_j1);
   w2c_j0 = w2c_l5;
   w2c_i0 = (u32)(w2c_j0);
-  w2c_j1 = w2c_l13;
+  w2c_j1 = w2c_l14;
   w2c_i1 = (u32)(w2c_j1);
   w2c_j1 = i64_load(&instance->w2c_memory, (u64)(w2c_i1) + 8u);
   i64_store(&instance->w2c_memory, (u64)(w2c_i0) + 96, w2c_j1);
   w2c_j0 = w2c_l5;
   w2c_i0 = (u32)(w2c_j0);
-  w2c_j1 = w2c_l13;
+  w2c_j1 = w2c_l14;
   w2c_i1 = (u32)(w2c_j1);
   w2c_j1 = i64_load(&instance->w2c_memory, (u64)(w2c_i1) + 16u);
   i64_store(&instance->w2c_memory, (u64)(w2c_i0) + 104, w2c_j1);
   w2c_j0 = w2c_l5;
   w2c_i0 = (u32)(w2c_j0);
-  w2c_j1 = w2c_l13;
+  w2c_j1 = w2c_l14;
   w2c_i1 = (u32)(w2c_j1);
   w2c_j1 = i64_load(&instance->w2c_memory, (u64)(w2c_i1) + 24u);
   i64_store(&instance->w2c_memory, (u64)(w2c_i0) + 112, w2c_j1);
   w2c_j0 = w2c_l5;
   w2c_i0 = (u32)(w2c_j0);
-  w2c_j1 = w2c_l13;
+  w2c_j1 = w2c_l14;
   w2c_i1 = (u32)(w2c_j1);
   w2c_j1 = i64_load(&instance->w2c_memory, (u64)(w2c_i1) + 32u);
   i64_store(&instance->w2c_memory, (u64)(w2c_i0) + 120, w2c_j1);
   w2c_j0 = w2c_l5;
   w2c_i0 = (u32)(w2c_j0);
-  w2c_j1 = w2c_l13;
+  w2c_j1 = w2c_l14;
   w2c_i1 = (u32)(w2c_j1);
   w2c_j1 = i64_load(&instance->w2c_memory, (u64)(w2c_i1) + 40u);
   i64_store(&instance->w2c_memory, (u64)(w2c_i0) + 128, w2c_j1);
   w2c_j0 = w2c_l5;
   w2c_i0 = (u32)(w2c_j0);
   w2c_j0 = i64_load(&instance->w2c_memory, (u64)(w2c_i0) + 232u);
-  w2c_l19 = w2c_j0;
+  w2c_l11 = w2c_j0;
   w2c_j0 = w2c_l5;
   w2c_i0 = (u32)(w2c_j0);
   w2c_j0 = i64_load(&instance->w2c_memory, (u64)(w2c_i0) + 224u);
@@ -74485,205 +75172,137 @@ static void w2c_f80(Z_dine_ffi_instance_t* instance, u64 w2c_p0, u64 w2c_p1, u32
   w2c_j0 = w2c_l5;
   w2c_i0 = (u32)(w2c_j0);
   w2c_j0 = i64_load(&instance->w2c_memory, (u64)(w2c_i0) + 216u);
-  w2c_l14 = w2c_j0;
-  w2c_j0 = w2c_l5;
-  w2c_j1 = 296ull;
-  w2c_j0 += w2c_j1;
-  w2c_l16 = w2c_j0;
-  w2c_l17 = w2c_j0;
+  w2c_l10 = w2c_j0;
   w2c_j0 = w2c_l24;
   w2c_j1 = 56ull;
   w2c_j0 *= w2c_j1;
-  w2c_l7 = w2c_j0;
+  w2c_l17 = w2c_j0;
   w2c_j1 = w2c_p1;
   w2c_j2 = 8ull;
   w2c_j1 += w2c_j2;
   w2c_i1 = (u32)(w2c_j1);
   w2c_j1 = i64_load(&instance->w2c_memory, (u64)(w2c_i1));
   w2c_j0 += w2c_j1;
-  w2c_j1 = 32ull;
-  w2c_j0 += w2c_j1;
-  w2c_i0 = (u32)(w2c_j0);
-  w2c_j0 = i64_load32_u(&instance->w2c_memory, (u64)(w2c_i0));
-  w2c_l10 = w2c_j0;
-  w2c_i0 = !(w2c_j0);
-  w2c_l25 = w2c_i0;
-  if (w2c_i0) {goto w2c_B37;}
-  w2c_j0 = w2c_l5;
+  w2c_p4 = w2c_j0;
   w2c_j1 = 48ull;
   w2c_j0 += w2c_j1;
-  w2c_j1 = w2c_l10;
-  w2c_j2 = 4ull;
-  w2c_j1 <<= (w2c_j2 & 63);
-  w2c_f136(instance, w2c_j0, w2c_j1);
-  w2c_j0 = w2c_l5;
   w2c_i0 = (u32)(w2c_j0);
-  w2c_j0 = i64_load(&instance->w2c_memory, (u64)(w2c_i0) + 48u);
-  w2c_i0 = (u32)(w2c_j0);
-  w2c_i1 = 1u;
-  w2c_i0 &= w2c_i1;
-  w2c_i0 = !(w2c_i0);
-  if (w2c_i0) {goto w2c_B36;}
-  w2c_j0 = w2c_l5;
-  w2c_i0 = (u32)(w2c_j0);
-  w2c_j0 = i64_load(&instance->w2c_memory, (u64)(w2c_i0) + 56u);
-  w2c_l17 = w2c_j0;
-  w2c_j0 = 0ull;
-  w2c_l9 = w2c_j0;
-  w2c_j0 = w2c_l10;
-  w2c_j1 = 1ull;
-  w2c_i0 = w2c_j0 != w2c_j1;
-  if (w2c_i0) {
-    w2c_j0 = w2c_l10;
-    w2c_j1 = 1ull;
-    w2c_j0 &= w2c_j1;
-    w2c_l13 = w2c_j0;
-    w2c_j0 = w2c_l10;
-    w2c_j1 = 4294967294ull;
-    w2c_j0 &= w2c_j1;
-    w2c_l18 = w2c_j0;
-    w2c_j0 = 104ull;
-    w2c_p4 = w2c_j0;
-    w2c_j0 = 0ull;
-    w2c_l8 = w2c_j0;
-    w2c_L39: 
-      w2c_j0 = w2c_p1;
-      w2c_j1 = 8ull;
-      w2c_j0 += w2c_j1;
-      w2c_l12 = w2c_j0;
-      w2c_i0 = (u32)(w2c_j0);
-      w2c_j0 = i64_load(&instance->w2c_memory, (u64)(w2c_i0));
-      w2c_j1 = w2c_l7;
-      w2c_j0 += w2c_j1;
-      w2c_j1 = 24ull;
-      w2c_j0 += w2c_j1;
-      w2c_i0 = (u32)(w2c_j0);
-      w2c_j0 = i64_load(&instance->w2c_memory, (u64)(w2c_i0));
-      w2c_j1 = w2c_p4;
-      w2c_j0 += w2c_j1;
-      w2c_l11 = w2c_j0;
-      w2c_j1 = 18446744073709551552ull;
-      w2c_j0 += w2c_j1;
-      w2c_i0 = (u32)(w2c_j0);
-      w2c_j0 = i64_load8_u(&instance->w2c_memory, (u64)(w2c_i0));
-      w2c_l23 = w2c_j0;
-      w2c_j0 = w2c_l8;
-      w2c_j1 = w2c_l17;
-      w2c_j0 += w2c_j1;
-      w2c_l6 = w2c_j0;
-      w2c_j1 = 8ull;
-      w2c_j0 += w2c_j1;
-      w2c_i0 = (u32)(w2c_j0);
-      w2c_j1 = w2c_l11;
-      w2c_j2 = 56ull;
-      w2c_j1 -= w2c_j2;
-      w2c_i1 = (u32)(w2c_j1);
-      w2c_j1 = i64_load(&instance->w2c_memory, (u64)(w2c_i1));
-      i64_store(&instance->w2c_memory, (u64)(w2c_i0), w2c_j1);
-      w2c_j0 = w2c_l6;
-      w2c_i0 = (u32)(w2c_j0);
-      w2c_j1 = w2c_l23;
-      i64_store(&instance->w2c_memory, (u64)(w2c_i0), w2c_j1);
-      w2c_j0 = w2c_l12;
-      w2c_i0 = (u32)(w2c_j0);
-      w2c_j0 = i64_load(&instance->w2c_memory, (u64)(w2c_i0));
-      w2c_j1 = w2c_l7;
-      w2c_j0 += w2c_j1;
-      w2c_j1 = 24ull;
-      w2c_j0 += w2c_j1;
-      w2c_i0 = (u32)(w2c_j0);
-      w2c_j0 = i64_load(&instance->w2c_memory, (u64)(w2c_i0));
-      w2c_j1 = w2c_p4;
-      w2c_j0 += w2c_j1;
-      w2c_l12 = w2c_j0;
-      w2c_j1 = 8ull;
-      w2c_j0 -= w2c_j1;
-      w2c_i0 = (u32)(w2c_j0);
-      w2c_j0 = i64_load8_u(&instance->w2c_memory, (u64)(w2c_i0));
-      w2c_l11 = w2c_j0;
-      w2c_j0 = w2c_l6;
-      w2c_j1 = 24ull;
-      w2c_j0 += w2c_j1;
-      w2c_i0 = (u32)(w2c_j0);
-      w2c_j1 = w2c_l12;
-      w2c_i1 = (u32)(w2c_j1);
-      w2c_j1 = i64_load(&instance->w2c_memory, (u64)(w2c_i1));
-      i64_store(&instance->w2c_memory, (u64)(w2c_i0), w2c_j1);
-      w2c_j0 = w2c_l6;
-      w2c_j1 = 16ull;
-      w2c_j0 += w2c_j1;
-      w2c_i0 = (u32)(w2c_j0);
-      w2c_j1 = w2c_l11;
-      i64_store(&instance->w2c_memory, (u64)(w2c_i0), w2c_j1);
-      w2c_j0 = w2c_l8;
-      w2c_j1 = 32ull;
-      w2c_j0 += w2c_j1;
-      w2c_l8 = w2c_j0;
-      w2c_j0 = w2c_p4;
-      w2c_j1 = 112ull;
-      w2c_j0 += w2c_j1;
-      w2c_p4 = w2c_j0;
-      w2c_j0 = w2c_l18;
-      w2c_j1 = w2c_l9;
-      w2c_j2 = 2ull;
-      w2c_j1 += w2c_j2;
-      w2c_l9 = w2c_j1;
-      w2c_i0 = w2c_j0 != w2c_j1;
-      if (w2c_i0) {goto w2c_L39;}
-    w2c_j0 = w2c_l13;
-    w2c_i0 = !(w2c_j0);
-    if (w2c_i0) {goto w2c_B37;}
-  }
-  w2c_j0 = w2c_p1;
-  w2c_j1 = 8ull;
-  w2c_j0 += w2c_j1;
-  w2c_i0 = (u32)(w2c_j0);
-  w2c_j0 = i64_load(&instance->w2c_memory, (u64)(w2c_i0));
-  w2c_j1 = w2c_l7;
-  w2c_j0 += w2c_j1;
-  w2c_j1 = 24ull;
-  w2c_j0 += w2c_j1;
-  w2c_i0 = (u32)(w2c_j0);
-  w2c_j0 = i64_load(&instance->w2c_memory, (u64)(w2c_i0));
-  w2c_j1 = w2c_l9;
-  w2c_j2 = 56ull;
-  w2c_j1 *= w2c_j2;
-  w2c_j0 += w2c_j1;
-  w2c_p4 = w2c_j0;
-  w2c_j1 = 40ull;
-  w2c_j0 += w2c_j1;
-  w2c_i0 = (u32)(w2c_j0);
-  w2c_j0 = i64_load8_u(&instance->w2c_memory, (u64)(w2c_i0));
-  w2c_l6 = w2c_j0;
-  w2c_j0 = w2c_l17;
-  w2c_j1 = w2c_l9;
-  w2c_j2 = 4ull;
-  w2c_j1 <<= (w2c_j2 & 63);
-  w2c_j0 += w2c_j1;
-  w2c_l8 = w2c_j0;
-  w2c_j1 = 8ull;
-  w2c_j0 += w2c_j1;
-  w2c_i0 = (u32)(w2c_j0);
+  w2c_i0 = i32_load(&instance->w2c_memory, (u64)(w2c_i0));
   w2c_j1 = w2c_p4;
-  w2c_j2 = 48ull;
+  w2c_j2 = 32ull;
   w2c_j1 += w2c_j2;
   w2c_i1 = (u32)(w2c_j1);
-  w2c_j1 = i64_load(&instance->w2c_memory, (u64)(w2c_i1));
-  i64_store(&instance->w2c_memory, (u64)(w2c_i0), w2c_j1);
-  w2c_j0 = w2c_l8;
-  w2c_i0 = (u32)(w2c_j0);
-  w2c_j1 = w2c_l6;
-  i64_store(&instance->w2c_memory, (u64)(w2c_i0), w2c_j1);
-  w2c_B37:;
+  w2c_i1 = i32_load(&instance->w2c_memory, (u64)(w2c_i1));
+  w2c_i0 += w2c_i1;
+  w2c_l25 = w2c_i0;
+  w2c_j0 = (u64)(w2c_i0);
+  w2c_l12 = w2c_j0;
+  w2c_j0 = w2c_l5;
+  w2c_j1 = 296ull;
+  w2c_j0 += w2c_j1;
+  w2c_l15 = w2c_j0;
+  w2c_l18 = w2c_j0;
+  w2c_i0 = w2c_l25;
+  if (w2c_i0) {
+    w2c_j0 = w2c_l5;
+    w2c_j1 = 48ull;
+    w2c_j0 += w2c_j1;
+    w2c_j1 = w2c_l12;
+    w2c_j2 = 4ull;
+    w2c_j1 <<= (w2c_j2 & 63);
+    w2c_f140(instance, w2c_j0, w2c_j1);
+    w2c_j0 = w2c_l5;
+    w2c_i0 = (u32)(w2c_j0);
+    w2c_j0 = i64_load(&instance->w2c_memory, (u64)(w2c_i0) + 48u);
+    w2c_i0 = (u32)(w2c_j0);
+    w2c_i1 = 1u;
+    w2c_i0 &= w2c_i1;
+    w2c_i0 = !(w2c_i0);
+    if (w2c_i0) {goto w2c_B36;}
+    w2c_j0 = 0ull;
+    w2c_l7 = w2c_j0;
+    w2c_j0 = 48ull;
+    w2c_l8 = w2c_j0;
+    w2c_j0 = w2c_p1;
+    w2c_j1 = 8ull;
+    w2c_j0 += w2c_j1;
+    w2c_l19 = w2c_j0;
+    w2c_j0 = w2c_l5;
+    w2c_i0 = (u32)(w2c_j0);
+    w2c_j0 = i64_load(&instance->w2c_memory, (u64)(w2c_i0) + 56u);
+    w2c_l18 = w2c_j0;
+    w2c_p4 = w2c_j0;
+    w2c_L38: 
+      w2c_j0 = 0ull;
+      w2c_l6 = w2c_j0;
+      w2c_j0 = 0ull;
+      w2c_l9 = w2c_j0;
+      w2c_j0 = w2c_p4;
+      w2c_i0 = (u32)(w2c_j0);
+      w2c_j1 = w2c_l7;
+      w2c_j2 = w2c_l19;
+      w2c_i2 = (u32)(w2c_j2);
+      w2c_j2 = i64_load(&instance->w2c_memory, (u64)(w2c_i2));
+      w2c_j3 = w2c_l17;
+      w2c_j2 += w2c_j3;
+      w2c_l16 = w2c_j2;
+      w2c_j3 = 32ull;
+      w2c_j2 += w2c_j3;
+      w2c_i2 = (u32)(w2c_j2);
+      w2c_j2 = i64_load(&instance->w2c_memory, (u64)(w2c_i2));
+      w2c_i1 = w2c_j1 < w2c_j2;
+      if (w2c_i1) {
+        w2c_j1 = w2c_l16;
+        w2c_j2 = 24ull;
+        w2c_j1 += w2c_j2;
+        w2c_i1 = (u32)(w2c_j1);
+        w2c_j1 = i64_load(&instance->w2c_memory, (u64)(w2c_i1));
+        w2c_j2 = w2c_l8;
+        w2c_j1 += w2c_j2;
+        w2c_l6 = w2c_j1;
+        w2c_i1 = (u32)(w2c_j1);
+        w2c_j1 = i64_load(&instance->w2c_memory, (u64)(w2c_i1));
+        w2c_l9 = w2c_j1;
+        w2c_j1 = w2c_l6;
+        w2c_j2 = 8ull;
+        w2c_j1 -= w2c_j2;
+        w2c_i1 = (u32)(w2c_j1);
+        w2c_j1 = i64_load8_u(&instance->w2c_memory, (u64)(w2c_i1));
+      } else {
+        w2c_j1 = w2c_l6;
+      }
+      i64_store(&instance->w2c_memory, (u64)(w2c_i0), w2c_j1);
+      w2c_j0 = w2c_p4;
+      w2c_j1 = 8ull;
+      w2c_j0 += w2c_j1;
+      w2c_i0 = (u32)(w2c_j0);
+      w2c_j1 = w2c_l9;
+      i64_store(&instance->w2c_memory, (u64)(w2c_i0), w2c_j1);
+      w2c_j0 = w2c_p4;
+      w2c_j1 = 16ull;
+      w2c_j0 += w2c_j1;
+      w2c_p4 = w2c_j0;
+      w2c_j0 = w2c_l8;
+      w2c_j1 = 56ull;
+      w2c_j0 += w2c_j1;
+      w2c_l8 = w2c_j0;
+      w2c_j0 = w2c_l12;
+      w2c_j1 = w2c_l7;
+      w2c_j2 = 1ull;
+      w2c_j1 += w2c_j2;
+      w2c_l7 = w2c_j1;
+      w2c_i0 = w2c_j0 != w2c_j1;
+      if (w2c_i0) {goto w2c_L38;}
+  }
   w2c_j0 = w2c_p3;
   w2c_j1 = 4294967295ull;
   w2c_j0 &= w2c_j1;
   w2c_p4 = w2c_j0;
   w2c_i0 = !(w2c_j0);
   if (w2c_i0) {
-    w2c_j0 = w2c_l16;
+    w2c_j0 = w2c_l15;
+    w2c_l7 = w2c_j0;
     w2c_l6 = w2c_j0;
-    w2c_l8 = w2c_j0;
     goto w2c_B40;
   }
   w2c_j0 = w2c_l5;
@@ -74692,8 +75311,8 @@ static void w2c_f80(Z_dine_ffi_instance_t* instance, u64 w2c_p0, u64 w2c_p1, u32
   w2c_j1 = w2c_p4;
   w2c_j2 = 3ull;
   w2c_j1 <<= (w2c_j2 & 63);
-  w2c_l9 = w2c_j1;
-  w2c_f136(instance, w2c_j0, w2c_j1);
+  w2c_l8 = w2c_j1;
+  w2c_f140(instance, w2c_j0, w2c_j1);
   w2c_j0 = w2c_l5;
   w2c_i0 = (u32)(w2c_j0);
   w2c_j0 = i64_load(&instance->w2c_memory, (u64)(w2c_i0) + 32u);
@@ -74705,14 +75324,14 @@ static void w2c_f80(Z_dine_ffi_instance_t* instance, u64 w2c_p0, u64 w2c_p1, u32
   w2c_j0 = w2c_l5;
   w2c_i0 = (u32)(w2c_j0);
   w2c_j0 = i64_load(&instance->w2c_memory, (u64)(w2c_i0) + 40u);
-  w2c_l6 = w2c_j0;
+  w2c_l7 = w2c_j0;
   w2c_j0 = w2c_l5;
   w2c_j1 = 16ull;
   w2c_j0 += w2c_j1;
   w2c_j1 = w2c_p4;
   w2c_j2 = 2ull;
   w2c_j1 <<= (w2c_j2 & 63);
-  w2c_f136(instance, w2c_j0, w2c_j1);
+  w2c_f140(instance, w2c_j0, w2c_j1);
   w2c_j0 = w2c_l5;
   w2c_i0 = (u32)(w2c_j0);
   w2c_j0 = i64_load(&instance->w2c_memory, (u64)(w2c_i0) + 16u);
@@ -74724,10 +75343,10 @@ static void w2c_f80(Z_dine_ffi_instance_t* instance, u64 w2c_p0, u64 w2c_p1, u32
   w2c_j0 = w2c_l5;
   w2c_i0 = (u32)(w2c_j0);
   w2c_j0 = i64_load(&instance->w2c_memory, (u64)(w2c_i0) + 24u);
-  w2c_l8 = w2c_j0;
+  w2c_l6 = w2c_j0;
   w2c_j0 = w2c_l5;
-  w2c_j1 = w2c_l9;
-  w2c_f136(instance, w2c_j0, w2c_j1);
+  w2c_j1 = w2c_l8;
+  w2c_f140(instance, w2c_j0, w2c_j1);
   w2c_j0 = w2c_l5;
   w2c_i0 = (u32)(w2c_j0);
   w2c_j0 = i64_load(&instance->w2c_memory, (u64)(w2c_i0));
@@ -74739,27 +75358,33 @@ static void w2c_f80(Z_dine_ffi_instance_t* instance, u64 w2c_p0, u64 w2c_p1, u32
   w2c_j0 = w2c_l5;
   w2c_i0 = (u32)(w2c_j0);
   w2c_j0 = i64_load(&instance->w2c_memory, (u64)(w2c_i0) + 8u);
-  w2c_l16 = w2c_j0;
+  w2c_l15 = w2c_j0;
   w2c_B40:;
   w2c_j0 = w2c_p1;
   w2c_j1 = 8ull;
   w2c_j0 += w2c_j1;
   w2c_i0 = (u32)(w2c_j0);
   w2c_j0 = i64_load(&instance->w2c_memory, (u64)(w2c_i0));
-  w2c_j1 = w2c_l7;
+  w2c_j1 = w2c_l17;
   w2c_j0 += w2c_j1;
-  w2c_l7 = w2c_j0;
-  w2c_j1 = 32ull;
-  w2c_j0 += w2c_j1;
-  w2c_i0 = (u32)(w2c_j0);
-  w2c_j0 = i64_load(&instance->w2c_memory, (u64)(w2c_i0));
-  w2c_l9 = w2c_j0;
-  w2c_j0 = w2c_l7;
+  w2c_l8 = w2c_j0;
   w2c_j1 = 48ull;
   w2c_j0 += w2c_j1;
   w2c_i0 = (u32)(w2c_j0);
-  w2c_i0 = i32_load8_u(&instance->w2c_memory, (u64)(w2c_i0));
+  w2c_i0 = i32_load(&instance->w2c_memory, (u64)(w2c_i0));
   w2c_l25 = w2c_i0;
+  w2c_j0 = w2c_l8;
+  w2c_j1 = 32ull;
+  w2c_j0 += w2c_j1;
+  w2c_i0 = (u32)(w2c_j0);
+  w2c_i0 = i32_load(&instance->w2c_memory, (u64)(w2c_i0));
+  w2c_l27 = w2c_i0;
+  w2c_j0 = w2c_l8;
+  w2c_j1 = 52ull;
+  w2c_j0 += w2c_j1;
+  w2c_i0 = (u32)(w2c_j0);
+  w2c_i0 = i32_load8_u(&instance->w2c_memory, (u64)(w2c_i0));
+  w2c_l26 = w2c_i0;
   w2c_j0 = w2c_p0;
   w2c_j1 = 41ull;
   w2c_j0 += w2c_j1;
@@ -74770,32 +75395,26 @@ static void w2c_f80(Z_dine_ffi_instance_t* instance, u64 w2c_p0, u64 w2c_p1, u32
   w2c_j1 = 40ull;
   w2c_j0 += w2c_j1;
   w2c_i0 = (u32)(w2c_j0);
-  w2c_i1 = w2c_l25;
+  w2c_i1 = w2c_l26;
   i32_store8(&instance->w2c_memory, (u64)(w2c_i0), w2c_i1);
   w2c_j0 = w2c_p0;
   w2c_j1 = 32ull;
   w2c_j0 += w2c_j1;
   w2c_i0 = (u32)(w2c_j0);
-  w2c_j1 = w2c_l10;
+  w2c_j1 = w2c_l12;
   i64_store(&instance->w2c_memory, (u64)(w2c_i0), w2c_j1);
   w2c_j0 = w2c_p0;
   w2c_j1 = 24ull;
   w2c_j0 += w2c_j1;
   w2c_i0 = (u32)(w2c_j0);
-  w2c_j1 = w2c_l10;
+  w2c_j1 = w2c_l12;
   i64_store(&instance->w2c_memory, (u64)(w2c_i0), w2c_j1);
   w2c_j0 = w2c_p0;
   w2c_j1 = 16ull;
   w2c_j0 += w2c_j1;
   w2c_i0 = (u32)(w2c_j0);
-  w2c_j1 = w2c_l17;
+  w2c_j1 = w2c_l18;
   i64_store(&instance->w2c_memory, (u64)(w2c_i0), w2c_j1);
-  w2c_j0 = w2c_p0;
-  w2c_j1 = 12ull;
-  w2c_j0 += w2c_j1;
-  w2c_i0 = (u32)(w2c_j0);
-  w2c_j1 = w2c_l9;
-  i64_store32(&instance->w2c_memory, (u64)(w2c_i0), w2c_j1);
   w2c_j0 = w2c_p0;
   w2c_j1 = 8ull;
   w2c_j0 += w2c_j1;
@@ -74832,7 +75451,7 @@ static void w2c_f80(Z_dine_ffi_instance_t* instance, u64 w2c_p0, u64 w2c_p1, u32
   w2c_j1 = 72ull;
   w2c_j0 += w2c_j1;
   w2c_i0 = (u32)(w2c_j0);
-  w2c_j1 = w2c_l19;
+  w2c_j1 = w2c_l11;
   i64_store(&instance->w2c_memory, (u64)(w2c_i0), w2c_j1);
   w2c_j0 = w2c_p0;
   w2c_j1 = 18446744073709551552ull;
@@ -74844,8 +75463,16 @@ static void w2c_f80(Z_dine_ffi_instance_t* instance, u64 w2c_p0, u64 w2c_p1, u32
   w2c_j1 = 56ull;
   w2c_j0 += w2c_j1;
   w2c_i0 = (u32)(w2c_j0);
-  w2c_j1 = w2c_l14;
+  w2c_j1 = w2c_l10;
   i64_store(&instance->w2c_memory, (u64)(w2c_i0), w2c_j1);
+  w2c_j0 = w2c_p0;
+  w2c_j1 = 12ull;
+  w2c_j0 += w2c_j1;
+  w2c_i0 = (u32)(w2c_j0);
+  w2c_i1 = w2c_l25;
+  w2c_i2 = w2c_l27;
+  w2c_i1 += w2c_i2;
+  i32_store(&instance->w2c_memory, (u64)(w2c_i0), w2c_i1);
   w2c_j0 = w2c_p0;
   w2c_j1 = 80ull;
   w2c_j0 += w2c_j1;
@@ -74910,7 +75537,7 @@ static void w2c_f80(Z_dine_ffi_instance_t* instance, u64 w2c_p0, u64 w2c_p1, u32
   w2c_j1 = 176ull;
   w2c_j0 += w2c_j1;
   w2c_i0 = (u32)(w2c_j0);
-  w2c_j1 = w2c_l8;
+  w2c_j1 = w2c_l6;
   i64_store(&instance->w2c_memory, (u64)(w2c_i0), w2c_j1);
   w2c_j0 = w2c_p0;
   w2c_j1 = 168ull;
@@ -74928,7 +75555,7 @@ static void w2c_f80(Z_dine_ffi_instance_t* instance, u64 w2c_p0, u64 w2c_p1, u32
   w2c_j1 = 152ull;
   w2c_j0 += w2c_j1;
   w2c_i0 = (u32)(w2c_j0);
-  w2c_j1 = w2c_l6;
+  w2c_j1 = w2c_l7;
   i64_store(&instance->w2c_memory, (u64)(w2c_i0), w2c_j1);
   w2c_j0 = w2c_p0;
   w2c_j1 = 144ull;
@@ -74946,7 +75573,7 @@ static void w2c_f80(Z_dine_ffi_instance_t* instance, u64 w2c_p0, u64 w2c_p1, u32
   w2c_j1 = 128ull;
   w2c_j0 += w2c_j1;
   w2c_i0 = (u32)(w2c_j0);
-  w2c_j1 = w2c_l16;
+  w2c_j1 = w2c_l15;
   i64_store(&instance->w2c_memory, (u64)(w2c_i0), w2c_j1);
   goto w2c_B0;
   w2c_B36:;
@@ -74954,7 +75581,7 @@ static void w2c_f80(Z_dine_ffi_instance_t* instance, u64 w2c_p0, u64 w2c_p1, u32
   w2c_i0 = !(w2c_j0);
   w2c_i0 = !(w2c_i0);
   if (w2c_i0) {
-    w2c_j0 = w2c_l14;
+    w2c_j0 = w2c_l10;
     w2c_j1 = 32ull;
     w2c_j0 += w2c_j1;
     w2c_p4 = w2c_j0;
@@ -74970,20 +75597,20 @@ static void w2c_f80(Z_dine_ffi_instance_t* instance, u64 w2c_p0, u64 w2c_p1, u32
       w2c_j0 = w2c_p4;
       w2c_i0 = (u32)(w2c_j0);
       w2c_j0 = i64_load(&instance->w2c_memory, (u64)(w2c_i0));
-      w2c_l6 = w2c_j0;
+      w2c_l7 = w2c_j0;
       w2c_i0 = (u32)(w2c_j0);
       w2c_j0 = i64_load(&instance->w2c_memory, (u64)(w2c_i0) + 48u);
-      w2c_l7 = w2c_j0;
-      w2c_j0 = w2c_l6;
+      w2c_l6 = w2c_j0;
+      w2c_j0 = w2c_l7;
       w2c_i0 = (u32)(w2c_j0);
       w2c_j0 = i64_load(&instance->w2c_memory, (u64)(w2c_i0) + 64u);
       w2c_l8 = w2c_j0;
-      w2c_j0 = w2c_l6;
+      w2c_j0 = w2c_l7;
       w2c_leave(instance, w2c_j0);
       w2c_j0 = w2c_l8;
       w2c_i0 = !(w2c_j0);
       if (w2c_i0) {goto w2c_B44;}
-      w2c_j0 = w2c_l7;
+      w2c_j0 = w2c_l6;
       w2c_leave(instance, w2c_j0);
       w2c_B44:;
       w2c_j0 = w2c_p4;
@@ -74998,11 +75625,11 @@ static void w2c_f80(Z_dine_ffi_instance_t* instance, u64 w2c_p0, u64 w2c_p1, u32
       w2c_i0 = w2c_j0 != w2c_j1;
       if (w2c_i0) {goto w2c_L43;}
   }
-  w2c_j0 = w2c_l19;
+  w2c_j0 = w2c_l11;
   w2c_i0 = !(w2c_j0);
   w2c_i0 = !(w2c_i0);
   if (w2c_i0) {
-    w2c_j0 = w2c_l14;
+    w2c_j0 = w2c_l10;
     w2c_leave(instance, w2c_j0);
   }
   w2c_j0 = w2c_p0;
@@ -75018,19 +75645,18 @@ static void w2c_f80(Z_dine_ffi_instance_t* instance, u64 w2c_p0, u64 w2c_p1, u32
   memory_fill(&instance->w2c_memory, w2c_i0, w2c_i1, w2c_i2);
   goto w2c_B0;
   w2c_B35:;
-  w2c_j0 = w2c_l8;
+  w2c_j0 = w2c_l6;
   w2c_leave(instance, w2c_j0);
   w2c_B34:;
-  w2c_j0 = w2c_l6;
+  w2c_j0 = w2c_l7;
   w2c_leave(instance, w2c_j0);
   w2c_B33:;
   w2c_i0 = w2c_l25;
-  w2c_i0 = !(w2c_i0);
   if (w2c_i0) {
-    w2c_j0 = w2c_l17;
+    w2c_j0 = w2c_l18;
     w2c_leave(instance, w2c_j0);
   }
-  w2c_j0 = w2c_l14;
+  w2c_j0 = w2c_l10;
   w2c_j1 = 32ull;
   w2c_j0 += w2c_j1;
   w2c_p4 = w2c_j0;
@@ -75046,20 +75672,20 @@ static void w2c_f80(Z_dine_ffi_instance_t* instance, u64 w2c_p0, u64 w2c_p1, u32
     w2c_j0 = w2c_p4;
     w2c_i0 = (u32)(w2c_j0);
     w2c_j0 = i64_load(&instance->w2c_memory, (u64)(w2c_i0));
-    w2c_l6 = w2c_j0;
+    w2c_l7 = w2c_j0;
     w2c_i0 = (u32)(w2c_j0);
     w2c_j0 = i64_load(&instance->w2c_memory, (u64)(w2c_i0) + 48u);
-    w2c_l7 = w2c_j0;
-    w2c_j0 = w2c_l6;
+    w2c_l6 = w2c_j0;
+    w2c_j0 = w2c_l7;
     w2c_i0 = (u32)(w2c_j0);
     w2c_j0 = i64_load(&instance->w2c_memory, (u64)(w2c_i0) + 64u);
     w2c_l8 = w2c_j0;
-    w2c_j0 = w2c_l6;
+    w2c_j0 = w2c_l7;
     w2c_leave(instance, w2c_j0);
     w2c_j0 = w2c_l8;
     w2c_i0 = !(w2c_j0);
     if (w2c_i0) {goto w2c_B48;}
-    w2c_j0 = w2c_l7;
+    w2c_j0 = w2c_l6;
     w2c_leave(instance, w2c_j0);
     w2c_B48:;
     w2c_j0 = w2c_p4;
@@ -75073,11 +75699,11 @@ static void w2c_f80(Z_dine_ffi_instance_t* instance, u64 w2c_p0, u64 w2c_p1, u32
     w2c_j1 = 0ull;
     w2c_i0 = w2c_j0 != w2c_j1;
     if (w2c_i0) {goto w2c_L47;}
-  w2c_j0 = w2c_l19;
+  w2c_j0 = w2c_l11;
   w2c_i0 = !(w2c_j0);
   w2c_i0 = !(w2c_i0);
   if (w2c_i0) {
-    w2c_j0 = w2c_l14;
+    w2c_j0 = w2c_l10;
     w2c_leave(instance, w2c_j0);
   }
   w2c_j0 = w2c_p0;
@@ -75099,7 +75725,7 @@ static void w2c_f80(Z_dine_ffi_instance_t* instance, u64 w2c_p0, u64 w2c_p1, u32
   FUNC_EPILOGUE;
 }
 
-static void w2c_f81(Z_dine_ffi_instance_t* instance, u64 w2c_p0) {
+static void w2c_f82(Z_dine_ffi_instance_t* instance, u64 w2c_p0) {
   u64 w2c_l1 = 0, w2c_l2 = 0, w2c_l3 = 0, w2c_l4 = 0, w2c_l5 = 0, w2c_l6 = 0, w2c_l7 = 0;
   FUNC_PROLOGUE;
   u32 w2c_i0, w2c_i3;
@@ -75220,7 +75846,7 @@ static void w2c_f81(Z_dine_ffi_instance_t* instance, u64 w2c_p0) {
   FUNC_EPILOGUE;
 }
 
-static u32 w2c_f82(Z_dine_ffi_instance_t* instance, u64 w2c_p0, u32 w2c_p1) {
+static u32 w2c_f83(Z_dine_ffi_instance_t* instance, u64 w2c_p0, u32 w2c_p1) {
   u32 w2c_l8 = 0;
   u64 w2c_l2 = 0, w2c_l3 = 0, w2c_l4 = 0, w2c_l5 = 0, w2c_l6 = 0, w2c_l7 = 0;
   FUNC_PROLOGUE;
@@ -75428,7 +76054,7 @@ static u32 w2c_f82(Z_dine_ffi_instance_t* instance, u64 w2c_p0, u32 w2c_p1) {
   return w2c_i0;
 }
 
-static void w2c_f83(Z_dine_ffi_instance_t* instance, u64 w2c_p0, u64 w2c_p1, u32 w2c_p2) {
+static void w2c_f84(Z_dine_ffi_instance_t* instance, u64 w2c_p0, u64 w2c_p1, u32 w2c_p2) {
   u32 w2c_l10 = 0, w2c_l11 = 0, w2c_l12 = 0, w2c_l13 = 0, w2c_l14 = 0;
   u64 w2c_l3 = 0, w2c_l4 = 0, w2c_l5 = 0, w2c_l6 = 0, w2c_l7 = 0, w2c_l8 = 0, w2c_l9 = 0;
   FUNC_PROLOGUE;
@@ -75470,7 +76096,7 @@ static void w2c_f83(Z_dine_ffi_instance_t* instance, u64 w2c_p0, u64 w2c_p1, u32
       if (w2c_i0) {
         w2c_j0 = w2c_p1;
         w2c_i1 = w2c_l13;
-        w2c_i0 = w2c_f82(instance, w2c_j0, w2c_i1);
+        w2c_i0 = w2c_f83(instance, w2c_j0, w2c_i1);
         goto w2c_B9;
       }
       w2c_j0 = w2c_l9;
@@ -75987,7 +76613,7 @@ static void w2c_f83(Z_dine_ffi_instance_t* instance, u64 w2c_p0, u64 w2c_p1, u32
   FUNC_EPILOGUE;
 }
 
-static void w2c_f84(Z_dine_ffi_instance_t* instance, u64 w2c_p0, u64 w2c_p1) {
+static void w2c_f85(Z_dine_ffi_instance_t* instance, u64 w2c_p0, u64 w2c_p1) {
   u32 w2c_l12 = 0, w2c_l13 = 0, w2c_l14 = 0, w2c_l15 = 0, w2c_l16 = 0, w2c_l17 = 0;
   u64 w2c_l2 = 0, w2c_l3 = 0, w2c_l4 = 0, w2c_l5 = 0, w2c_l6 = 0, w2c_l7 = 0, w2c_l8 = 0, w2c_l9 = 0, 
       w2c_l10 = 0, w2c_l11 = 0;
@@ -76149,7 +76775,7 @@ static void w2c_f84(Z_dine_ffi_instance_t* instance, u64 w2c_p0, u64 w2c_p1) {
       w2c_l4 = w2c_j0;
       w2c_i0 = !(w2c_j0);
       w2c_i0 = !(w2c_i0);
-      if (w2c_i0) {goto w2c_B10;}
+      if (w2c_i0) {goto w2c_B12;}
       goto w2c_B2;
     }
     w2c_i0 = 1u;
@@ -76193,13 +76819,13 @@ static void w2c_f84(Z_dine_ffi_instance_t* instance, u64 w2c_p0, u64 w2c_p1) {
   w2c_i1 = 1u;
   w2c_i0 -= w2c_i1;
   switch (w2c_i0) {
-    case 0: goto w2c_B9;
-    case 1: goto w2c_B8;
-    case 2: goto w2c_B7;
-    case 3: goto w2c_B6;
-    default: goto w2c_B5;
+    case 0: goto w2c_B10;
+    case 1: goto w2c_B9;
+    case 2: goto w2c_B8;
+    case 3: goto w2c_B7;
+    default: goto w2c_B11;
   }
-  w2c_B10:;
+  w2c_B12:;
   w2c_j0 = w2c_l4;
   w2c_j1 = w2c_l3;
   w2c_j2 = 32ull;
@@ -76214,14 +76840,14 @@ static void w2c_f84(Z_dine_ffi_instance_t* instance, u64 w2c_p0, u64 w2c_p1) {
     w2c_j0 += w2c_j1;
     w2c_i0 = (u32)(w2c_j0);
     w2c_j0 = i64_load(&instance->w2c_memory, (u64)(w2c_i0));
-    goto w2c_B13;
+    goto w2c_B15;
   }
   w2c_j0 = w2c_l7;
   w2c_i0 = (u32)(w2c_j0);
   w2c_j1 = 0ull;
   i64_store(&instance->w2c_memory, (u64)(w2c_i0), w2c_j1);
   w2c_j0 = 0ull;
-  w2c_B13:;
+  w2c_B15:;
   w2c_l8 = w2c_j0;
   w2c_j0 = w2c_l3;
   w2c_j1 = 8ull;
@@ -76271,216 +76897,9 @@ static void w2c_f84(Z_dine_ffi_instance_t* instance, u64 w2c_p0, u64 w2c_p1) {
   w2c_j0 = w2c_l2;
   w2c_i1 = w2c_l13;
   w2c_j2 = w2c_l5;
-  w2c_f85(instance, w2c_j0, w2c_i1, w2c_j2);
+  w2c_f86(instance, w2c_j0, w2c_i1, w2c_j2);
   goto w2c_B4;
-  w2c_B9:;
-  w2c_i0 = 0u;
-  w2c_l12 = w2c_i0;
-  w2c_j0 = w2c_l2;
-  w2c_j1 = 36ull;
-  w2c_j0 += w2c_j1;
-  w2c_i0 = (u32)(w2c_j0);
-  w2c_i0 = i32_load(&instance->w2c_memory, (u64)(w2c_i0));
-  w2c_l13 = w2c_i0;
-  w2c_i1 = w2c_l13;
-  w2c_i2 = 0u;
-  w2c_i1 = w2c_i1 != w2c_i2;
-  w2c_i0 -= w2c_i1;
-  w2c_j0 = (u64)(w2c_i0);
-  w2c_l3 = w2c_j0;
-  w2c_j1 = w2c_l2;
-  w2c_j2 = 240ull;
-  w2c_j1 += w2c_j2;
-  w2c_i1 = (u32)(w2c_j1);
-  w2c_j1 = i64_load(&instance->w2c_memory, (u64)(w2c_i1));
-  w2c_i0 = w2c_j0 < w2c_j1;
-  if (w2c_i0) {
-    w2c_j0 = w2c_l2;
-    w2c_j1 = 232ull;
-    w2c_j0 += w2c_j1;
-    w2c_i0 = (u32)(w2c_j0);
-    w2c_j0 = i64_load(&instance->w2c_memory, (u64)(w2c_i0));
-    w2c_j1 = w2c_l3;
-    w2c_j0 += w2c_j1;
-    w2c_i0 = (u32)(w2c_j0);
-    w2c_i0 = i32_load8_u(&instance->w2c_memory, (u64)(w2c_i0));
-    w2c_l12 = w2c_i0;
-  }
-  w2c_j0 = w2c_l2;
-  w2c_j1 = 200ull;
-  w2c_j0 += w2c_j1;
-  w2c_l3 = w2c_j0;
-  w2c_i0 = (u32)(w2c_j0);
-  w2c_j0 = i64_load(&instance->w2c_memory, (u64)(w2c_i0));
-  w2c_l4 = w2c_j0;
-  w2c_j0 = w2c_l3;
-  w2c_i0 = (u32)(w2c_j0);
-  w2c_j1 = 0ull;
-  i64_store(&instance->w2c_memory, (u64)(w2c_i0), w2c_j1);
-  w2c_j0 = w2c_l2;
-  w2c_j1 = 208ull;
-  w2c_j0 += w2c_j1;
-  w2c_l3 = w2c_j0;
-  w2c_i0 = (u32)(w2c_j0);
-  w2c_j0 = i64_load(&instance->w2c_memory, (u64)(w2c_i0));
-  w2c_l8 = w2c_j0;
-  w2c_j0 = w2c_l3;
-  w2c_i0 = (u32)(w2c_j0);
-  w2c_j1 = 0ull;
-  i64_store(&instance->w2c_memory, (u64)(w2c_i0), w2c_j1);
-  w2c_j0 = w2c_l2;
-  w2c_j1 = 216ull;
-  w2c_j0 += w2c_j1;
-  w2c_l3 = w2c_j0;
-  w2c_i0 = (u32)(w2c_j0);
-  w2c_j0 = i64_load(&instance->w2c_memory, (u64)(w2c_i0));
-  w2c_l7 = w2c_j0;
-  w2c_j0 = w2c_l3;
-  w2c_i0 = (u32)(w2c_j0);
-  w2c_j1 = 0ull;
-  i64_store(&instance->w2c_memory, (u64)(w2c_i0), w2c_j1);
-  w2c_j0 = w2c_l2;
-  w2c_j1 = 224ull;
-  w2c_j0 += w2c_j1;
-  w2c_l3 = w2c_j0;
-  w2c_i0 = (u32)(w2c_j0);
-  w2c_j0 = i64_load(&instance->w2c_memory, (u64)(w2c_i0));
-  w2c_l9 = w2c_j0;
-  w2c_j0 = w2c_l3;
-  w2c_i0 = (u32)(w2c_j0);
-  w2c_j1 = 0ull;
-  i64_store(&instance->w2c_memory, (u64)(w2c_i0), w2c_j1);
-  w2c_j0 = w2c_l2;
-  w2c_j1 = 192ull;
-  w2c_j0 += w2c_j1;
-  w2c_l3 = w2c_j0;
-  w2c_i0 = (u32)(w2c_j0);
-  w2c_i0 = i32_load8_u(&instance->w2c_memory, (u64)(w2c_i0));
-  w2c_l13 = w2c_i0;
-  w2c_j0 = w2c_l3;
-  w2c_i0 = (u32)(w2c_j0);
-  w2c_j1 = 0ull;
-  i64_store(&instance->w2c_memory, (u64)(w2c_i0), w2c_j1);
-  w2c_j0 = w2c_l5;
-  w2c_i0 = (u32)(w2c_j0);
-  w2c_j1 = w2c_l4;
-  i64_store(&instance->w2c_memory, (u64)(w2c_i0), w2c_j1);
-  w2c_j0 = w2c_l5;
-  w2c_i0 = (u32)(w2c_j0);
-  w2c_j1 = w2c_l8;
-  i64_store(&instance->w2c_memory, (u64)(w2c_i0) + 8, w2c_j1);
-  w2c_j0 = w2c_l5;
-  w2c_i0 = (u32)(w2c_j0);
-  w2c_j1 = w2c_l7;
-  i64_store(&instance->w2c_memory, (u64)(w2c_i0) + 16, w2c_j1);
-  w2c_j0 = w2c_l5;
-  w2c_i0 = (u32)(w2c_j0);
-  w2c_j1 = w2c_l9;
-  i64_store(&instance->w2c_memory, (u64)(w2c_i0) + 24, w2c_j1);
-  w2c_i0 = w2c_l13;
-  w2c_i1 = 1u;
-  w2c_i0 = w2c_i0 != w2c_i1;
-  if (w2c_i0) {goto w2c_B2;}
-  w2c_j0 = w2c_l2;
-  w2c_j1 = w2c_l5;
-  w2c_i2 = w2c_l12;
-  w2c_i3 = 1u;
-  w2c_i2 &= w2c_i3;
-  w2c_f7(instance, w2c_j0, w2c_j1, w2c_i2);
-  w2c_i0 = w2c_l15;
-  if (w2c_i0) {goto w2c_B4;}
-  goto w2c_B3;
-  w2c_B8:;
-  w2c_j0 = w2c_l5;
-  w2c_i0 = (u32)(w2c_j0);
-  w2c_j1 = 0ull;
-  i64_store(&instance->w2c_memory, (u64)(w2c_i0) + 24, w2c_j1);
-  w2c_j0 = w2c_l5;
-  w2c_i0 = (u32)(w2c_j0);
-  w2c_j1 = 0ull;
-  i64_store(&instance->w2c_memory, (u64)(w2c_i0) + 16, w2c_j1);
-  w2c_j0 = w2c_l5;
-  w2c_i0 = (u32)(w2c_j0);
-  w2c_j1 = 0ull;
-  i64_store(&instance->w2c_memory, (u64)(w2c_i0) + 8, w2c_j1);
-  w2c_j0 = w2c_l5;
-  w2c_i0 = (u32)(w2c_j0);
-  w2c_j1 = 0ull;
-  i64_store(&instance->w2c_memory, (u64)(w2c_i0), w2c_j1);
-  w2c_j0 = w2c_l5;
-  w2c_j1 = w2c_l2;
-  w2c_f74(instance, w2c_j0, w2c_j1);
-  w2c_j0 = w2c_l2;
-  w2c_j1 = 200ull;
-  w2c_j0 += w2c_j1;
-  w2c_i0 = (u32)(w2c_j0);
-  w2c_j1 = w2c_l5;
-  w2c_i1 = (u32)(w2c_j1);
-  w2c_j1 = i64_load(&instance->w2c_memory, (u64)(w2c_i1));
-  i64_store(&instance->w2c_memory, (u64)(w2c_i0), w2c_j1);
-  w2c_j0 = w2c_l2;
-  w2c_j1 = 208ull;
-  w2c_j0 += w2c_j1;
-  w2c_i0 = (u32)(w2c_j0);
-  w2c_j1 = w2c_l5;
-  w2c_i1 = (u32)(w2c_j1);
-  w2c_j1 = i64_load(&instance->w2c_memory, (u64)(w2c_i1) + 8u);
-  i64_store(&instance->w2c_memory, (u64)(w2c_i0), w2c_j1);
-  w2c_j0 = w2c_l2;
-  w2c_j1 = 216ull;
-  w2c_j0 += w2c_j1;
-  w2c_i0 = (u32)(w2c_j0);
-  w2c_j1 = w2c_l5;
-  w2c_i1 = (u32)(w2c_j1);
-  w2c_j1 = i64_load(&instance->w2c_memory, (u64)(w2c_i1) + 16u);
-  i64_store(&instance->w2c_memory, (u64)(w2c_i0), w2c_j1);
-  w2c_j0 = w2c_l2;
-  w2c_j1 = 224ull;
-  w2c_j0 += w2c_j1;
-  w2c_i0 = (u32)(w2c_j0);
-  w2c_j1 = w2c_l5;
-  w2c_i1 = (u32)(w2c_j1);
-  w2c_j1 = i64_load(&instance->w2c_memory, (u64)(w2c_i1) + 24u);
-  i64_store(&instance->w2c_memory, (u64)(w2c_i0), w2c_j1);
-  w2c_j0 = w2c_l2;
-  w2c_j1 = 192ull;
-  w2c_j0 += w2c_j1;
-  w2c_l2 = w2c_j0;
-  w2c_i0 = (u32)(w2c_j0);
-  w2c_i0 = i32_load8_u(&instance->w2c_memory, (u64)(w2c_i0));
-  w2c_l12 = w2c_i0;
-  w2c_j0 = w2c_l2;
-  w2c_i0 = (u32)(w2c_j0);
-  w2c_j1 = 1ull;
-  i64_store(&instance->w2c_memory, (u64)(w2c_i0), w2c_j1);
-  w2c_i0 = w2c_l12;
-  w2c_i1 = 1u;
-  w2c_i0 = w2c_i0 == w2c_i1;
-  if (w2c_i0) {goto w2c_B2;}
-  w2c_i0 = w2c_l15;
-  if (w2c_i0) {goto w2c_B4;}
-  goto w2c_B3;
-  w2c_B7:;
-  w2c_j0 = w2c_l2;
-  w2c_j1 = 40ull;
-  w2c_j0 += w2c_j1;
-  w2c_i0 = (u32)(w2c_j0);
-  w2c_i1 = 256u;
-  i32_store16(&instance->w2c_memory, (u64)(w2c_i0), w2c_i1);
-  w2c_i0 = w2c_l15;
-  if (w2c_i0) {goto w2c_B4;}
-  goto w2c_B3;
-  w2c_B6:;
-  w2c_j0 = w2c_l2;
-  w2c_j1 = 33ull;
-  w2c_j0 += w2c_j1;
-  w2c_i0 = (u32)(w2c_j0);
-  w2c_i1 = 1u;
-  i32_store8(&instance->w2c_memory, (u64)(w2c_i0), w2c_i1);
-  w2c_i0 = w2c_l15;
-  if (w2c_i0) {goto w2c_B4;}
-  goto w2c_B3;
-  w2c_B5:;
+  w2c_B11:;
   w2c_j0 = w2c_l6;
   w2c_i0 = (u32)(w2c_j0);
   w2c_j0 = i64_load(&instance->w2c_memory, (u64)(w2c_i0));
@@ -76519,12 +76938,12 @@ static void w2c_f84(Z_dine_ffi_instance_t* instance, u64 w2c_p0, u64 w2c_p1) {
     case 1: goto w2c_B2;
     case 2: goto w2c_B2;
     case 3: goto w2c_B2;
-    case 4: goto w2c_B19;
-    case 5: goto w2c_B17;
-    case 6: goto w2c_B18;
-    default: goto w2c_B20;
+    case 4: goto w2c_B20;
+    case 5: goto w2c_B18;
+    case 6: goto w2c_B19;
+    default: goto w2c_B21;
   }
-  w2c_B20:;
+  w2c_B21:;
   w2c_j0 = w2c_l2;
   w2c_j1 = 72ull;
   w2c_j0 += w2c_j1;
@@ -76657,8 +77076,8 @@ static void w2c_f84(Z_dine_ffi_instance_t* instance, u64 w2c_p0, u64 w2c_p1) {
   i64_store(&instance->w2c_memory, (u64)(w2c_i0), w2c_j1);
   w2c_i0 = 0u;
   w2c_l14 = w2c_i0;
-  goto w2c_B16;
-  w2c_B19:;
+  goto w2c_B17;
+  w2c_B20:;
   w2c_j0 = w2c_l2;
   w2c_j1 = 88ull;
   w2c_j0 += w2c_j1;
@@ -76697,8 +77116,8 @@ static void w2c_f84(Z_dine_ffi_instance_t* instance, u64 w2c_p0, u64 w2c_p1) {
   w2c_i1 = 1u;
   w2c_i0 = w2c_i0 != w2c_i1;
   if (w2c_i0) {goto w2c_B2;}
-  goto w2c_B16;
-  w2c_B18:;
+  goto w2c_B17;
+  w2c_B19:;
   w2c_j0 = w2c_l3;
   w2c_j1 = 50ull;
   w2c_j0 += w2c_j1;
@@ -76722,8 +77141,8 @@ static void w2c_f84(Z_dine_ffi_instance_t* instance, u64 w2c_p0, u64 w2c_p1) {
   w2c_l3 = w2c_j0;
   w2c_i0 = 3u;
   w2c_l12 = w2c_i0;
-  goto w2c_B16;
-  w2c_B17:;
+  goto w2c_B17;
+  w2c_B18:;
   w2c_j0 = w2c_l3;
   w2c_j1 = 48ull;
   w2c_j0 += w2c_j1;
@@ -76747,7 +77166,7 @@ static void w2c_f84(Z_dine_ffi_instance_t* instance, u64 w2c_p0, u64 w2c_p1) {
   w2c_l3 = w2c_j0;
   w2c_i0 = 2u;
   w2c_l12 = w2c_i0;
-  w2c_B16:;
+  w2c_B17:;
   w2c_j0 = w2c_l8;
   w2c_i1 = w2c_l13;
   w2c_i2 = w2c_l16;
@@ -76791,33 +77210,240 @@ static void w2c_f84(Z_dine_ffi_instance_t* instance, u64 w2c_p0, u64 w2c_p1) {
   w2c_j2 = i64_load(&instance->w2c_memory, (u64)(w2c_i2));
   w2c_l11 = w2c_j2;
   w2c_j1 -= w2c_j2;
+  w2c_i0 = w2c_j0 >= w2c_j1;
+  if (w2c_i0) {goto w2c_B6;}
+  w2c_j0 = w2c_l4;
+  w2c_j1 = w2c_l10;
+  w2c_j2 = w2c_l11;
+  w2c_j1 += w2c_j2;
+  w2c_j2 = 4ull;
+  w2c_j1 <<= (w2c_j2 & 63);
+  w2c_j0 += w2c_j1;
+  w2c_l4 = w2c_j0;
+  w2c_i0 = (u32)(w2c_j0);
+  w2c_i1 = w2c_l12;
+  i32_store(&instance->w2c_memory, (u64)(w2c_i0), w2c_i1);
+  w2c_j0 = w2c_l4;
+  w2c_j1 = 8ull;
+  w2c_j0 += w2c_j1;
+  w2c_i0 = (u32)(w2c_j0);
+  w2c_j1 = w2c_l3;
+  i64_store(&instance->w2c_memory, (u64)(w2c_i0), w2c_j1);
+  w2c_j0 = w2c_l4;
+  w2c_j1 = 4ull;
+  w2c_j0 += w2c_j1;
+  w2c_i0 = (u32)(w2c_j0);
+  w2c_i1 = w2c_l14;
+  i32_store(&instance->w2c_memory, (u64)(w2c_i0), w2c_i1);
+  goto w2c_B5;
+  w2c_B10:;
+  w2c_i0 = 0u;
+  w2c_l12 = w2c_i0;
+  w2c_j0 = w2c_l2;
+  w2c_j1 = 36ull;
+  w2c_j0 += w2c_j1;
+  w2c_i0 = (u32)(w2c_j0);
+  w2c_i0 = i32_load(&instance->w2c_memory, (u64)(w2c_i0));
+  w2c_l13 = w2c_i0;
+  w2c_i1 = w2c_l13;
+  w2c_i2 = 0u;
+  w2c_i1 = w2c_i1 != w2c_i2;
+  w2c_i0 -= w2c_i1;
+  w2c_j0 = (u64)(w2c_i0);
+  w2c_l3 = w2c_j0;
+  w2c_j1 = w2c_l2;
+  w2c_j2 = 240ull;
+  w2c_j1 += w2c_j2;
+  w2c_i1 = (u32)(w2c_j1);
+  w2c_j1 = i64_load(&instance->w2c_memory, (u64)(w2c_i1));
   w2c_i0 = w2c_j0 < w2c_j1;
   if (w2c_i0) {
-    w2c_j0 = w2c_l4;
-    w2c_j1 = w2c_l10;
-    w2c_j2 = w2c_l11;
-    w2c_j1 += w2c_j2;
-    w2c_j2 = 4ull;
-    w2c_j1 <<= (w2c_j2 & 63);
-    w2c_j0 += w2c_j1;
-    w2c_l4 = w2c_j0;
-    w2c_i0 = (u32)(w2c_j0);
-    w2c_i1 = w2c_l12;
-    i32_store(&instance->w2c_memory, (u64)(w2c_i0), w2c_i1);
-    w2c_j0 = w2c_l4;
-    w2c_j1 = 8ull;
+    w2c_j0 = w2c_l2;
+    w2c_j1 = 232ull;
     w2c_j0 += w2c_j1;
     w2c_i0 = (u32)(w2c_j0);
+    w2c_j0 = i64_load(&instance->w2c_memory, (u64)(w2c_i0));
     w2c_j1 = w2c_l3;
-    i64_store(&instance->w2c_memory, (u64)(w2c_i0), w2c_j1);
-    w2c_j0 = w2c_l4;
-    w2c_j1 = 4ull;
     w2c_j0 += w2c_j1;
     w2c_i0 = (u32)(w2c_j0);
-    w2c_i1 = w2c_l14;
-    i32_store(&instance->w2c_memory, (u64)(w2c_i0), w2c_i1);
-    goto w2c_B22;
+    w2c_i0 = i32_load8_u(&instance->w2c_memory, (u64)(w2c_i0));
+    w2c_l12 = w2c_i0;
   }
+  w2c_j0 = w2c_l2;
+  w2c_j1 = 200ull;
+  w2c_j0 += w2c_j1;
+  w2c_l3 = w2c_j0;
+  w2c_i0 = (u32)(w2c_j0);
+  w2c_j0 = i64_load(&instance->w2c_memory, (u64)(w2c_i0));
+  w2c_l4 = w2c_j0;
+  w2c_j0 = w2c_l3;
+  w2c_i0 = (u32)(w2c_j0);
+  w2c_j1 = 0ull;
+  i64_store(&instance->w2c_memory, (u64)(w2c_i0), w2c_j1);
+  w2c_j0 = w2c_l2;
+  w2c_j1 = 208ull;
+  w2c_j0 += w2c_j1;
+  w2c_l3 = w2c_j0;
+  w2c_i0 = (u32)(w2c_j0);
+  w2c_j0 = i64_load(&instance->w2c_memory, (u64)(w2c_i0));
+  w2c_l8 = w2c_j0;
+  w2c_j0 = w2c_l3;
+  w2c_i0 = (u32)(w2c_j0);
+  w2c_j1 = 0ull;
+  i64_store(&instance->w2c_memory, (u64)(w2c_i0), w2c_j1);
+  w2c_j0 = w2c_l2;
+  w2c_j1 = 216ull;
+  w2c_j0 += w2c_j1;
+  w2c_l3 = w2c_j0;
+  w2c_i0 = (u32)(w2c_j0);
+  w2c_j0 = i64_load(&instance->w2c_memory, (u64)(w2c_i0));
+  w2c_l7 = w2c_j0;
+  w2c_j0 = w2c_l3;
+  w2c_i0 = (u32)(w2c_j0);
+  w2c_j1 = 0ull;
+  i64_store(&instance->w2c_memory, (u64)(w2c_i0), w2c_j1);
+  w2c_j0 = w2c_l2;
+  w2c_j1 = 224ull;
+  w2c_j0 += w2c_j1;
+  w2c_l3 = w2c_j0;
+  w2c_i0 = (u32)(w2c_j0);
+  w2c_j0 = i64_load(&instance->w2c_memory, (u64)(w2c_i0));
+  w2c_l9 = w2c_j0;
+  w2c_j0 = w2c_l3;
+  w2c_i0 = (u32)(w2c_j0);
+  w2c_j1 = 0ull;
+  i64_store(&instance->w2c_memory, (u64)(w2c_i0), w2c_j1);
+  w2c_j0 = w2c_l2;
+  w2c_j1 = 192ull;
+  w2c_j0 += w2c_j1;
+  w2c_l3 = w2c_j0;
+  w2c_i0 = (u32)(w2c_j0);
+  w2c_i0 = i32_load8_u(&instance->w2c_memory, (u64)(w2c_i0));
+  w2c_l13 = w2c_i0;
+  w2c_j0 = w2c_l3;
+  w2c_i0 = (u32)(w2c_j0);
+  w2c_j1 = 0ull;
+  i64_store(&instance->w2c_memory, (u64)(w2c_i0), w2c_j1);
+  w2c_j0 = w2c_l5;
+  w2c_i0 = (u32)(w2c_j0);
+  w2c_j1 = w2c_l4;
+  i64_store(&instance->w2c_memory, (u64)(w2c_i0), w2c_j1);
+  w2c_j0 = w2c_l5;
+  w2c_i0 = (u32)(w2c_j0);
+  w2c_j1 = w2c_l8;
+  i64_store(&instance->w2c_memory, (u64)(w2c_i0) + 8, w2c_j1);
+  w2c_j0 = w2c_l5;
+  w2c_i0 = (u32)(w2c_j0);
+  w2c_j1 = w2c_l7;
+  i64_store(&instance->w2c_memory, (u64)(w2c_i0) + 16, w2c_j1);
+  w2c_j0 = w2c_l5;
+  w2c_i0 = (u32)(w2c_j0);
+  w2c_j1 = w2c_l9;
+  i64_store(&instance->w2c_memory, (u64)(w2c_i0) + 24, w2c_j1);
+  w2c_i0 = w2c_l13;
+  w2c_i1 = 1u;
+  w2c_i0 = w2c_i0 != w2c_i1;
+  if (w2c_i0) {goto w2c_B2;}
+  w2c_j0 = w2c_l2;
+  w2c_j1 = w2c_l5;
+  w2c_i2 = w2c_l12;
+  w2c_i3 = 1u;
+  w2c_i2 &= w2c_i3;
+  w2c_f7(instance, w2c_j0, w2c_j1, w2c_i2);
+  w2c_i0 = w2c_l15;
+  if (w2c_i0) {goto w2c_B4;}
+  goto w2c_B3;
+  w2c_B9:;
+  w2c_j0 = w2c_l5;
+  w2c_i0 = (u32)(w2c_j0);
+  w2c_j1 = 0ull;
+  i64_store(&instance->w2c_memory, (u64)(w2c_i0) + 24, w2c_j1);
+  w2c_j0 = w2c_l5;
+  w2c_i0 = (u32)(w2c_j0);
+  w2c_j1 = 0ull;
+  i64_store(&instance->w2c_memory, (u64)(w2c_i0) + 16, w2c_j1);
+  w2c_j0 = w2c_l5;
+  w2c_i0 = (u32)(w2c_j0);
+  w2c_j1 = 0ull;
+  i64_store(&instance->w2c_memory, (u64)(w2c_i0) + 8, w2c_j1);
+  w2c_j0 = w2c_l5;
+  w2c_i0 = (u32)(w2c_j0);
+  w2c_j1 = 0ull;
+  i64_store(&instance->w2c_memory, (u64)(w2c_i0), w2c_j1);
+  w2c_j0 = w2c_l5;
+  w2c_j1 = w2c_l2;
+  w2c_f75(instance, w2c_j0, w2c_j1);
+  w2c_j0 = w2c_l2;
+  w2c_j1 = 200ull;
+  w2c_j0 += w2c_j1;
+  w2c_i0 = (u32)(w2c_j0);
+  w2c_j1 = w2c_l5;
+  w2c_i1 = (u32)(w2c_j1);
+  w2c_j1 = i64_load(&instance->w2c_memory, (u64)(w2c_i1));
+  i64_store(&instance->w2c_memory, (u64)(w2c_i0), w2c_j1);
+  w2c_j0 = w2c_l2;
+  w2c_j1 = 208ull;
+  w2c_j0 += w2c_j1;
+  w2c_i0 = (u32)(w2c_j0);
+  w2c_j1 = w2c_l5;
+  w2c_i1 = (u32)(w2c_j1);
+  w2c_j1 = i64_load(&instance->w2c_memory, (u64)(w2c_i1) + 8u);
+  i64_store(&instance->w2c_memory, (u64)(w2c_i0), w2c_j1);
+  w2c_j0 = w2c_l2;
+  w2c_j1 = 216ull;
+  w2c_j0 += w2c_j1;
+  w2c_i0 = (u32)(w2c_j0);
+  w2c_j1 = w2c_l5;
+  w2c_i1 = (u32)(w2c_j1);
+  w2c_j1 = i64_load(&instance->w2c_memory, (u64)(w2c_i1) + 16u);
+  i64_store(&instance->w2c_memory, (u64)(w2c_i0), w2c_j1);
+  w2c_j0 = w2c_l2;
+  w2c_j1 = 224ull;
+  w2c_j0 += w2c_j1;
+  w2c_i0 = (u32)(w2c_j0);
+  w2c_j1 = w2c_l5;
+  w2c_i1 = (u32)(w2c_j1);
+  w2c_j1 = i64_load(&instance->w2c_memory, (u64)(w2c_i1) + 24u);
+  i64_store(&instance->w2c_memory, (u64)(w2c_i0), w2c_j1);
+  w2c_j0 = w2c_l2;
+  w2c_j1 = 192ull;
+  w2c_j0 += w2c_j1;
+  w2c_l2 = w2c_j0;
+  w2c_i0 = (u32)(w2c_j0);
+  w2c_i0 = i32_load8_u(&instance->w2c_memory, (u64)(w2c_i0));
+  w2c_l12 = w2c_i0;
+  w2c_j0 = w2c_l2;
+  w2c_i0 = (u32)(w2c_j0);
+  w2c_j1 = 1ull;
+  i64_store(&instance->w2c_memory, (u64)(w2c_i0), w2c_j1);
+  w2c_i0 = w2c_l12;
+  w2c_i1 = 1u;
+  w2c_i0 = w2c_i0 == w2c_i1;
+  if (w2c_i0) {goto w2c_B2;}
+  w2c_i0 = w2c_l15;
+  if (w2c_i0) {goto w2c_B4;}
+  goto w2c_B3;
+  w2c_B8:;
+  w2c_j0 = w2c_l2;
+  w2c_j1 = 40ull;
+  w2c_j0 += w2c_j1;
+  w2c_i0 = (u32)(w2c_j0);
+  w2c_i1 = 256u;
+  i32_store16(&instance->w2c_memory, (u64)(w2c_i0), w2c_i1);
+  w2c_i0 = w2c_l15;
+  if (w2c_i0) {goto w2c_B4;}
+  goto w2c_B3;
+  w2c_B7:;
+  w2c_j0 = w2c_l2;
+  w2c_j1 = 33ull;
+  w2c_j0 += w2c_j1;
+  w2c_i0 = (u32)(w2c_j0);
+  w2c_i1 = 1u;
+  i32_store8(&instance->w2c_memory, (u64)(w2c_i0), w2c_i1);
+  w2c_i0 = w2c_l15;
+  if (w2c_i0) {goto w2c_B4;}
+  goto w2c_B3;
+  w2c_B6:;
   w2c_j0 = w2c_l4;
   w2c_j1 = w2c_l7;
   w2c_j2 = 4ull;
@@ -76845,7 +77471,7 @@ static void w2c_f84(Z_dine_ffi_instance_t* instance, u64 w2c_p0, u64 w2c_p1) {
   w2c_j2 = 1ull;
   w2c_j1 += w2c_j2;
   i64_store(&instance->w2c_memory, (u64)(w2c_i0), w2c_j1);
-  w2c_B22:;
+  w2c_B5:;
   w2c_j0 = w2c_l2;
   w2c_j1 = 8ull;
   w2c_j0 += w2c_j1;
@@ -76962,7 +77588,7 @@ static void w2c_f84(Z_dine_ffi_instance_t* instance, u64 w2c_p0, u64 w2c_p1) {
   FUNC_EPILOGUE;
 }
 
-static void w2c_f85(Z_dine_ffi_instance_t* instance, u64 w2c_p0, u32 w2c_p1, u64 w2c_p2) {
+static void w2c_f86(Z_dine_ffi_instance_t* instance, u64 w2c_p0, u32 w2c_p1, u64 w2c_p2) {
   u64 w2c_l3 = 0, w2c_l4 = 0, w2c_l5 = 0;
   FUNC_PROLOGUE;
   u32 w2c_i0, w2c_i1, w2c_i3;
@@ -77143,7 +77769,7 @@ static void w2c_f85(Z_dine_ffi_instance_t* instance, u64 w2c_p0, u32 w2c_p1, u64
   FUNC_EPILOGUE;
 }
 
-static void w2c_f86(Z_dine_ffi_instance_t* instance, u64 w2c_p0, u64 w2c_p1, u32 w2c_p2) {
+static void w2c_f87(Z_dine_ffi_instance_t* instance, u64 w2c_p0, u64 w2c_p1, u32 w2c_p2) {
   u32 w2c_l13 = 0, w2c_l14 = 0, w2c_l15 = 0;
   u64 w2c_l3 = 0, w2c_l4 = 0, w2c_l5 = 0, w2c_l6 = 0, w2c_l7 = 0, w2c_l8 = 0, w2c_l9 = 0, w2c_l10 = 0, 
       w2c_l11 = 0, w2c_l12 = 0;
@@ -77530,7 +78156,7 @@ static void w2c_f86(Z_dine_ffi_instance_t* instance, u64 w2c_p0, u64 w2c_p1, u32
   FUNC_EPILOGUE;
 }
 
-static void w2c_f87(Z_dine_ffi_instance_t* instance, u64 w2c_p0, u64 w2c_p1, u32 w2c_p2, u64 w2c_p3) {
+static void w2c_f88(Z_dine_ffi_instance_t* instance, u64 w2c_p0, u64 w2c_p1, u32 w2c_p2, u64 w2c_p3) {
   u32 w2c_l7 = 0, w2c_l8 = 0, w2c_l9 = 0, w2c_l10 = 0, w2c_l11 = 0, w2c_l12 = 0, w2c_l13 = 0, w2c_l14 = 0;
   u64 w2c_l4 = 0, w2c_l5 = 0, w2c_l6 = 0;
   FUNC_PROLOGUE;
@@ -78009,7 +78635,7 @@ static void w2c_f87(Z_dine_ffi_instance_t* instance, u64 w2c_p0, u64 w2c_p1, u32
   w2c_j0 = w2c_p1;
   w2c_i1 = w2c_p2;
   w2c_j2 = w2c_l6;
-  w2c_f85(instance, w2c_j0, w2c_i1, w2c_j2);
+  w2c_f86(instance, w2c_j0, w2c_i1, w2c_j2);
   w2c_j0 = 0ull;
   w2c_l5 = w2c_j0;
   w2c_i0 = 0u;
@@ -78060,7 +78686,460 @@ static void w2c_f87(Z_dine_ffi_instance_t* instance, u64 w2c_p0, u64 w2c_p1, u32
   FUNC_EPILOGUE;
 }
 
-static u32 w2c_f88(Z_dine_ffi_instance_t* instance, u64 w2c_p0, u64 w2c_p1, u64 w2c_p2) {
+static u32 w2c_f89(Z_dine_ffi_instance_t* instance, u64 w2c_p0, u64 w2c_p1) {
+  u32 w2c_l7 = 0, w2c_l8 = 0;
+  u64 w2c_l2 = 0, w2c_l3 = 0, w2c_l4 = 0, w2c_l5 = 0, w2c_l6 = 0;
+  FUNC_PROLOGUE;
+  u32 w2c_i0, w2c_i1, w2c_i2, w2c_i3;
+  u64 w2c_j0, w2c_j1, w2c_j2, w2c_j3;
+  w2c_j0 = instance->w2c_g0;
+  w2c_j1 = 32ull;
+  w2c_j0 -= w2c_j1;
+  w2c_l4 = w2c_j0;
+  instance->w2c_g0 = w2c_j0;
+  w2c_j0 = w2c_p0;
+  w2c_j1 = 28ull;
+  w2c_j0 += w2c_j1;
+  w2c_i0 = (u32)(w2c_j0);
+  w2c_j1 = 0ull;
+  i64_store(&instance->w2c_memory, (u64)(w2c_i0), w2c_j1);
+  w2c_j0 = 24ull;
+  w2c_l2 = w2c_j0;
+  w2c_j0 = w2c_p0;
+  w2c_j1 = 24ull;
+  w2c_j0 += w2c_j1;
+  w2c_i0 = (u32)(w2c_j0);
+  w2c_i1 = 32u;
+  i32_store(&instance->w2c_memory, (u64)(w2c_i0), w2c_i1);
+  w2c_j0 = w2c_p0;
+  w2c_j1 = 36ull;
+  w2c_j0 += w2c_j1;
+  w2c_i0 = (u32)(w2c_j0);
+  w2c_i1 = 0u;
+  i32_store(&instance->w2c_memory, (u64)(w2c_i0), w2c_i1);
+  w2c_j0 = w2c_p0;
+  w2c_j1 = 40ull;
+  w2c_j0 += w2c_j1;
+  w2c_i0 = (u32)(w2c_j0);
+  w2c_j1 = 18446744073709551615ull;
+  i64_store(&instance->w2c_memory, (u64)(w2c_i0), w2c_j1);
+  w2c_j0 = w2c_p1;
+  w2c_i0 = (u32)(w2c_j0);
+  w2c_j0 = i64_load(&instance->w2c_memory, (u64)(w2c_i0));
+  w2c_i0 = (u32)(w2c_j0);
+  w2c_j0 = i64_load32_u(&instance->w2c_memory, (u64)(w2c_i0));
+  w2c_l3 = w2c_j0;
+  w2c_j0 = w2c_l4;
+  w2c_i0 = (u32)(w2c_j0);
+  w2c_j1 = 0ull;
+  i64_store(&instance->w2c_memory, (u64)(w2c_i0) + 24, w2c_j1);
+  w2c_j0 = w2c_l4;
+  w2c_i0 = (u32)(w2c_j0);
+  w2c_j1 = 0ull;
+  i64_store(&instance->w2c_memory, (u64)(w2c_i0) + 16, w2c_j1);
+  w2c_j0 = w2c_l4;
+  w2c_i0 = (u32)(w2c_j0);
+  w2c_j1 = 0ull;
+  i64_store(&instance->w2c_memory, (u64)(w2c_i0) + 8, w2c_j1);
+  w2c_j0 = w2c_l3;
+  w2c_j1 = 100ull;
+  w2c_i0 = w2c_j0 >= w2c_j1;
+  if (w2c_i0) {
+    w2c_L1: 
+      w2c_j0 = w2c_l4;
+      w2c_j1 = 8ull;
+      w2c_j0 += w2c_j1;
+      w2c_j1 = w2c_l2;
+      w2c_j0 += w2c_j1;
+      w2c_l5 = w2c_j0;
+      w2c_j1 = 2ull;
+      w2c_j0 -= w2c_j1;
+      w2c_i0 = (u32)(w2c_j0);
+      w2c_j1 = w2c_l3;
+      w2c_p1 = w2c_j1;
+      w2c_j2 = w2c_l3;
+      w2c_j3 = 100ull;
+      w2c_j2 = DIV_U(w2c_j2, w2c_j3);
+      w2c_l3 = w2c_j2;
+      w2c_j3 = 100ull;
+      w2c_j2 *= w2c_j3;
+      w2c_j1 -= w2c_j2;
+      w2c_i1 = (u32)(w2c_j1);
+      w2c_l7 = w2c_i1;
+      w2c_i2 = 255u;
+      w2c_i1 &= w2c_i2;
+      w2c_i2 = 10u;
+      w2c_i1 = DIV_U(w2c_i1, w2c_i2);
+      w2c_l8 = w2c_i1;
+      w2c_i2 = 48u;
+      w2c_i1 |= w2c_i2;
+      i32_store8(&instance->w2c_memory, (u64)(w2c_i0), w2c_i1);
+      w2c_j0 = w2c_l5;
+      w2c_j1 = 1ull;
+      w2c_j0 -= w2c_j1;
+      w2c_i0 = (u32)(w2c_j0);
+      w2c_i1 = w2c_l7;
+      w2c_i2 = w2c_l8;
+      w2c_i3 = 10u;
+      w2c_i2 *= w2c_i3;
+      w2c_i1 -= w2c_i2;
+      w2c_i2 = 48u;
+      w2c_i1 |= w2c_i2;
+      i32_store8(&instance->w2c_memory, (u64)(w2c_i0), w2c_i1);
+      w2c_j0 = w2c_l2;
+      w2c_j1 = 2ull;
+      w2c_j0 -= w2c_j1;
+      w2c_l2 = w2c_j0;
+      w2c_j0 = w2c_p1;
+      w2c_j1 = 9999ull;
+      w2c_i0 = w2c_j0 > w2c_j1;
+      if (w2c_i0) {goto w2c_L1;}
+  }
+  w2c_j0 = w2c_l3;
+  w2c_i0 = (u32)(w2c_j0);
+  w2c_l7 = w2c_i0;
+  w2c_j0 = w2c_l3;
+  w2c_j1 = 10ull;
+  w2c_i0 = w2c_j0 >= w2c_j1;
+  if (w2c_i0) {
+    w2c_j0 = w2c_l4;
+    w2c_j1 = 8ull;
+    w2c_j0 += w2c_j1;
+    w2c_j1 = w2c_l2;
+    w2c_j0 += w2c_j1;
+    w2c_p1 = w2c_j0;
+    w2c_j1 = 2ull;
+    w2c_j0 -= w2c_j1;
+    w2c_i0 = (u32)(w2c_j0);
+    w2c_i1 = w2c_l7;
+    w2c_i2 = 255u;
+    w2c_i1 &= w2c_i2;
+    w2c_i2 = 10u;
+    w2c_i1 = DIV_U(w2c_i1, w2c_i2);
+    w2c_l8 = w2c_i1;
+    w2c_i2 = 48u;
+    w2c_i1 |= w2c_i2;
+    i32_store8(&instance->w2c_memory, (u64)(w2c_i0), w2c_i1);
+    w2c_j0 = w2c_p1;
+    w2c_j1 = 1ull;
+    w2c_j0 -= w2c_j1;
+    w2c_i0 = (u32)(w2c_j0);
+    w2c_i1 = w2c_l7;
+    w2c_i2 = w2c_l8;
+    w2c_i3 = 10u;
+    w2c_i2 *= w2c_i3;
+    w2c_i1 -= w2c_i2;
+    w2c_i2 = 48u;
+    w2c_i1 |= w2c_i2;
+    i32_store8(&instance->w2c_memory, (u64)(w2c_i0), w2c_i1);
+    w2c_j0 = w2c_l2;
+    w2c_j1 = 2ull;
+    w2c_j0 -= w2c_j1;
+    w2c_l2 = w2c_j0;
+    goto w2c_B2;
+  }
+  w2c_j0 = w2c_l2;
+  w2c_j1 = 1ull;
+  w2c_j0 -= w2c_j1;
+  w2c_l2 = w2c_j0;
+  w2c_j1 = w2c_l4;
+  w2c_j2 = 8ull;
+  w2c_j1 += w2c_j2;
+  w2c_j0 += w2c_j1;
+  w2c_i0 = (u32)(w2c_j0);
+  w2c_i1 = w2c_l7;
+  w2c_i2 = 48u;
+  w2c_i1 |= w2c_i2;
+  i32_store8(&instance->w2c_memory, (u64)(w2c_i0), w2c_i1);
+  w2c_B2:;
+  w2c_j0 = w2c_l4;
+  w2c_j1 = 8ull;
+  w2c_j0 += w2c_j1;
+  w2c_j1 = w2c_l2;
+  w2c_j0 += w2c_j1;
+  w2c_l6 = w2c_j0;
+  w2c_j1 = 1ull;
+  w2c_j0 -= w2c_j1;
+  w2c_i0 = (u32)(w2c_j0);
+  w2c_i1 = 45u;
+  i32_store8(&instance->w2c_memory, (u64)(w2c_i0), w2c_i1);
+  w2c_j0 = 24ull;
+  w2c_j1 = w2c_l2;
+  w2c_j0 -= w2c_j1;
+  w2c_l2 = w2c_j0;
+  w2c_j0 = w2c_p0;
+  w2c_j1 = 48ull;
+  w2c_j0 += w2c_j1;
+  w2c_i0 = (u32)(w2c_j0);
+  w2c_j0 = i64_load(&instance->w2c_memory, (u64)(w2c_i0));
+  w2c_i0 = !(w2c_j0);
+  if (w2c_i0) {
+    w2c_j0 = w2c_p0;
+    w2c_j1 = 16ull;
+    w2c_j0 += w2c_j1;
+    w2c_i0 = (u32)(w2c_j0);
+    w2c_j0 = i64_load(&instance->w2c_memory, (u64)(w2c_i0));
+    w2c_l5 = w2c_j0;
+    w2c_j1 = w2c_p0;
+    w2c_j2 = 8ull;
+    w2c_j1 += w2c_j2;
+    w2c_i1 = (u32)(w2c_j1);
+    w2c_j1 = i64_load(&instance->w2c_memory, (u64)(w2c_i1));
+    w2c_p1 = w2c_j1;
+    w2c_j0 -= w2c_j1;
+    w2c_j1 = w2c_l2;
+    w2c_i0 = w2c_j0 < w2c_j1;
+    if (w2c_i0) {
+      w2c_i0 = 1u;
+      w2c_j1 = w2c_p0;
+      w2c_j2 = w2c_l2;
+      w2c_i1 = w2c_f53(instance, w2c_j1, w2c_j2);
+      w2c_i1 = !(w2c_i1);
+      if (w2c_i1) {goto w2c_B4;}
+      w2c_j0 = w2c_p0;
+      w2c_j1 = 16ull;
+      w2c_j0 += w2c_j1;
+      w2c_i0 = (u32)(w2c_j0);
+      w2c_j0 = i64_load(&instance->w2c_memory, (u64)(w2c_i0));
+      w2c_l5 = w2c_j0;
+      w2c_j0 = w2c_p0;
+      w2c_j1 = 8ull;
+      w2c_j0 += w2c_j1;
+      w2c_i0 = (u32)(w2c_j0);
+      w2c_j0 = i64_load(&instance->w2c_memory, (u64)(w2c_i0));
+      w2c_p1 = w2c_j0;
+    }
+    w2c_j0 = w2c_p0;
+    w2c_i0 = (u32)(w2c_j0);
+    w2c_j0 = i64_load(&instance->w2c_memory, (u64)(w2c_i0));
+    w2c_l3 = w2c_j0;
+    w2c_j0 = w2c_l2;
+    w2c_i0 = !(w2c_j0);
+    w2c_i0 = !(w2c_i0);
+    if (w2c_i0) {
+      w2c_j0 = w2c_p1;
+      w2c_j1 = w2c_l3;
+      w2c_j0 += w2c_j1;
+      w2c_i0 = (u32)(w2c_j0);
+      w2c_j1 = w2c_l6;
+      w2c_i1 = (u32)(w2c_j1);
+      w2c_j2 = w2c_l2;
+      w2c_i2 = (u32)(w2c_j2);
+      memory_copy(&instance->w2c_memory, &instance->w2c_memory, w2c_i0, w2c_i1, w2c_i2);
+    }
+    w2c_j0 = w2c_p0;
+    w2c_j1 = 16ull;
+    w2c_j0 += w2c_j1;
+    w2c_i0 = (u32)(w2c_j0);
+    w2c_j1 = w2c_l5;
+    i64_store(&instance->w2c_memory, (u64)(w2c_i0), w2c_j1);
+    w2c_j0 = w2c_p0;
+    w2c_j1 = 8ull;
+    w2c_j0 += w2c_j1;
+    w2c_i0 = (u32)(w2c_j0);
+    w2c_j1 = w2c_p1;
+    w2c_j2 = w2c_l2;
+    w2c_j1 += w2c_j2;
+    i64_store(&instance->w2c_memory, (u64)(w2c_i0), w2c_j1);
+    w2c_j0 = w2c_p0;
+    w2c_i0 = (u32)(w2c_j0);
+    w2c_j1 = w2c_l3;
+    i64_store(&instance->w2c_memory, (u64)(w2c_i0), w2c_j1);
+    w2c_i0 = 0u;
+    goto w2c_B4;
+  }
+  w2c_j0 = w2c_p0;
+  w2c_j1 = w2c_l6;
+  w2c_j2 = w2c_l2;
+  w2c_i0 = w2c_f90(instance, w2c_j0, w2c_j1, w2c_j2);
+  w2c_i1 = 255u;
+  w2c_i0 &= w2c_i1;
+  w2c_B4:;
+  w2c_l7 = w2c_i0;
+  w2c_j0 = w2c_l4;
+  w2c_j1 = 32ull;
+  w2c_j0 += w2c_j1;
+  instance->w2c_g0 = w2c_j0;
+  w2c_i0 = w2c_l7;
+  FUNC_EPILOGUE;
+  return w2c_i0;
+}
+
+static u32 w2c_f90(Z_dine_ffi_instance_t* instance, u64 w2c_p0, u64 w2c_p1, u64 w2c_p2) {
+  u64 w2c_l3 = 0, w2c_l4 = 0, w2c_l5 = 0, w2c_l6 = 0, w2c_l7 = 0, w2c_l8 = 0;
+  FUNC_PROLOGUE;
+  u32 w2c_i0, w2c_i1, w2c_i2, w2c_i4, w2c_i5;
+  u64 w2c_j0, w2c_j1, w2c_j2, w2c_j3, w2c_j4, w2c_j5, w2c_j6;
+  w2c_i0 = 0u;
+  w2c_j1 = w2c_p2;
+  w2c_i1 = !(w2c_j1);
+  if (w2c_i1) {goto w2c_B0;}
+  w2c_j0 = w2c_p0;
+  w2c_j1 = 56ull;
+  w2c_j0 += w2c_j1;
+  w2c_l7 = w2c_j0;
+  w2c_j0 = w2c_p0;
+  w2c_j1 = 48ull;
+  w2c_j0 += w2c_j1;
+  w2c_l8 = w2c_j0;
+  w2c_L1: 
+    w2c_j0 = w2c_l4;
+    w2c_l5 = w2c_j0;
+    w2c_j0 = w2c_l3;
+    w2c_l6 = w2c_j0;
+    w2c_j1 = 1ull;
+    w2c_j0 += w2c_j1;
+    w2c_l3 = w2c_j0;
+    w2c_j0 = w2c_p1;
+    w2c_j1 = w2c_l6;
+    w2c_j0 += w2c_j1;
+    w2c_i0 = (u32)(w2c_j0);
+    w2c_i0 = i32_load8_u(&instance->w2c_memory, (u64)(w2c_i0));
+    w2c_i1 = 10u;
+    w2c_i0 = w2c_i0 != w2c_i1;
+    if (w2c_i0) {
+      goto w2c_B2;
+    }
+    w2c_j0 = w2c_l3;
+    w2c_l4 = w2c_j0;
+    w2c_j0 = w2c_l5;
+    w2c_j1 = w2c_l6;
+    w2c_i0 = w2c_j0 > w2c_j1;
+    if (w2c_i0) {goto w2c_B2;}
+    w2c_j0 = w2c_l7;
+    w2c_i0 = (u32)(w2c_j0);
+    w2c_i0 = i32_load8_u(&instance->w2c_memory, (u64)(w2c_i0));
+    w2c_i1 = 1u;
+    w2c_i0 = w2c_i0 != w2c_i1;
+    if (w2c_i0) {goto w2c_B4;}
+    w2c_j0 = w2c_l8;
+    w2c_i0 = (u32)(w2c_j0);
+    w2c_j0 = i64_load(&instance->w2c_memory, (u64)(w2c_i0));
+    w2c_l6 = w2c_j0;
+    w2c_i0 = !(w2c_j0);
+    if (w2c_i0) {goto w2c_B4;}
+    w2c_L5: 
+      w2c_j0 = w2c_p0;
+      w2c_j1 = 1060285ull;
+      w2c_j2 = 4ull;
+      w2c_i0 = w2c_f91(instance, w2c_j0, w2c_j1, w2c_j2);
+      w2c_i1 = 255u;
+      w2c_i0 &= w2c_i1;
+      w2c_i0 = !(w2c_i0);
+      if (w2c_i0) {
+        w2c_j0 = w2c_l6;
+        w2c_j1 = 1ull;
+        w2c_j0 -= w2c_j1;
+        w2c_l6 = w2c_j0;
+        w2c_i0 = !(w2c_j0);
+        w2c_i0 = !(w2c_i0);
+        if (w2c_i0) {goto w2c_L5;}
+        goto w2c_B4;
+      }
+    w2c_i0 = 1u;
+    goto w2c_Bfunc;
+    w2c_B4:;
+    w2c_j0 = w2c_l7;
+    w2c_i0 = (u32)(w2c_j0);
+    w2c_i1 = 1u;
+    i32_store8(&instance->w2c_memory, (u64)(w2c_i0), w2c_i1);
+    w2c_i0 = 1u;
+    w2c_j1 = w2c_p0;
+    w2c_j2 = w2c_p1;
+    w2c_j3 = 0ull;
+    w2c_j4 = w2c_l5;
+    w2c_j5 = w2c_l3;
+    w2c_j6 = w2c_l5;
+    w2c_i5 = w2c_j5 < w2c_j6;
+    w2c_j3 = w2c_i5 ? w2c_j3 : w2c_j4;
+    w2c_j2 += w2c_j3;
+    w2c_j3 = w2c_l3;
+    w2c_j4 = w2c_l5;
+    w2c_j3 -= w2c_j4;
+    w2c_i1 = w2c_f91(instance, w2c_j1, w2c_j2, w2c_j3);
+    w2c_i2 = 255u;
+    w2c_i1 &= w2c_i2;
+    if (w2c_i1) {goto w2c_B0;}
+    w2c_B2:;
+    w2c_j0 = w2c_p2;
+    w2c_j1 = w2c_l3;
+    w2c_i0 = w2c_j0 != w2c_j1;
+    if (w2c_i0) {goto w2c_L1;}
+  w2c_i0 = 0u;
+  w2c_j1 = w2c_p2;
+  w2c_j2 = w2c_l4;
+  w2c_i1 = w2c_j1 <= w2c_j2;
+  if (w2c_i1) {goto w2c_B0;}
+  w2c_j0 = w2c_p0;
+  w2c_j1 = 56ull;
+  w2c_j0 += w2c_j1;
+  w2c_l5 = w2c_j0;
+  w2c_i0 = (u32)(w2c_j0);
+  w2c_i0 = i32_load8_u(&instance->w2c_memory, (u64)(w2c_i0));
+  w2c_i1 = 1u;
+  w2c_i0 = w2c_i0 != w2c_i1;
+  if (w2c_i0) {goto w2c_B7;}
+  w2c_j0 = w2c_p0;
+  w2c_j1 = 48ull;
+  w2c_j0 += w2c_j1;
+  w2c_i0 = (u32)(w2c_j0);
+  w2c_j0 = i64_load(&instance->w2c_memory, (u64)(w2c_i0));
+  w2c_l3 = w2c_j0;
+  w2c_i0 = !(w2c_j0);
+  if (w2c_i0) {goto w2c_B7;}
+  w2c_L8: 
+    w2c_j0 = w2c_p0;
+    w2c_j1 = 1060285ull;
+    w2c_j2 = 4ull;
+    w2c_i0 = w2c_f91(instance, w2c_j0, w2c_j1, w2c_j2);
+    w2c_i1 = 255u;
+    w2c_i0 &= w2c_i1;
+    w2c_i0 = !(w2c_i0);
+    if (w2c_i0) {
+      w2c_j0 = w2c_l3;
+      w2c_j1 = 1ull;
+      w2c_j0 -= w2c_j1;
+      w2c_l3 = w2c_j0;
+      w2c_i0 = !(w2c_j0);
+      w2c_i0 = !(w2c_i0);
+      if (w2c_i0) {goto w2c_L8;}
+      goto w2c_B7;
+    }
+  w2c_i0 = 1u;
+  goto w2c_Bfunc;
+  w2c_B7:;
+  w2c_j0 = w2c_l5;
+  w2c_i0 = (u32)(w2c_j0);
+  w2c_i1 = 0u;
+  i32_store8(&instance->w2c_memory, (u64)(w2c_i0), w2c_i1);
+  w2c_j0 = w2c_p0;
+  w2c_j1 = w2c_p1;
+  w2c_j2 = 0ull;
+  w2c_j3 = w2c_l4;
+  w2c_j4 = w2c_p2;
+  w2c_j5 = w2c_l4;
+  w2c_i4 = w2c_j4 < w2c_j5;
+  w2c_j2 = w2c_i4 ? w2c_j2 : w2c_j3;
+  w2c_j1 += w2c_j2;
+  w2c_j2 = 0ull;
+  w2c_j3 = w2c_p2;
+  w2c_j4 = w2c_l4;
+  w2c_j3 -= w2c_j4;
+  w2c_l3 = w2c_j3;
+  w2c_j4 = w2c_p2;
+  w2c_j5 = w2c_l3;
+  w2c_i4 = w2c_j4 < w2c_j5;
+  w2c_j2 = w2c_i4 ? w2c_j2 : w2c_j3;
+  w2c_i0 = w2c_f91(instance, w2c_j0, w2c_j1, w2c_j2);
+  w2c_i1 = 255u;
+  w2c_i0 &= w2c_i1;
+  w2c_B0:;
+  w2c_Bfunc:;
+  FUNC_EPILOGUE;
+  return w2c_i0;
+}
+
+static u32 w2c_f91(Z_dine_ffi_instance_t* instance, u64 w2c_p0, u64 w2c_p1, u64 w2c_p2) {
   u32 w2c_l12 = 0, w2c_l13 = 0, w2c_l14 = 0, w2c_l15 = 0, w2c_l16 = 0;
   u64 w2c_l3 = 0, w2c_l4 = 0, w2c_l5 = 0, w2c_l6 = 0, w2c_l7 = 0, w2c_l8 = 0, w2c_l9 = 0, w2c_l10 = 0, 
       w2c_l11 = 0;
@@ -78584,7 +79663,7 @@ static u64 w2c_dine_raw_plan_open(Z_dine_ffi_instance_t* instance, u64 w2c_p0, u
   w2c_j1 = 3ull;
   w2c_j0 <<= (w2c_j1 & 63);
   w2c_i0 = (u32)(w2c_j0);
-  w2c_j0 = i64_load(&instance->w2c_memory, (u64)(w2c_i0) + 1060440u);
+  w2c_j0 = i64_load(&instance->w2c_memory, (u64)(w2c_i0) + 1060312u);
   w2c_B0:;
   w2c_p0 = w2c_j0;
   w2c_j0 = w2c_l3;
@@ -79661,11 +80740,11 @@ static u64 w2c_dine_raw_plan_builder_finish(Z_dine_ffi_instance_t* instance, u64
       w2c_j2 = 56ull;
       w2c_j1 *= w2c_j2;
       w2c_j0 += w2c_j1;
-      w2c_l12 = w2c_j0;
+      w2c_l11 = w2c_j0;
       w2c_i0 = (u32)(w2c_j0);
       w2c_j0 = i64_load(&instance->w2c_memory, (u64)(w2c_i0));
       w2c_l7 = w2c_j0;
-      w2c_j0 = w2c_l12;
+      w2c_j0 = w2c_l11;
       w2c_j1 = 8ull;
       w2c_j0 += w2c_j1;
       w2c_i0 = (u32)(w2c_j0);
@@ -79686,7 +80765,7 @@ static u64 w2c_dine_raw_plan_builder_finish(Z_dine_ffi_instance_t* instance, u64
         w2c_j1 = 56ull;
         w2c_j0 += w2c_j1;
         w2c_j1 = w2c_l10;
-        w2c_f136(instance, w2c_j0, w2c_j1);
+        w2c_f140(instance, w2c_j0, w2c_j1);
         w2c_j0 = w2c_l2;
         w2c_i0 = (u32)(w2c_j0);
         w2c_j0 = i64_load(&instance->w2c_memory, (u64)(w2c_i0) + 56u);
@@ -79718,7 +80797,7 @@ static u64 w2c_dine_raw_plan_builder_finish(Z_dine_ffi_instance_t* instance, u64
           w2c_j0 = w2c_l10;
           w2c_j1 = 18446744073709551612ull;
           w2c_j0 &= w2c_j1;
-          w2c_l11 = w2c_j0;
+          w2c_l12 = w2c_j0;
           w2c_L18: 
             w2c_j0 = w2c_l4;
             w2c_j1 = w2c_l8;
@@ -79762,7 +80841,7 @@ static u64 w2c_dine_raw_plan_builder_finish(Z_dine_ffi_instance_t* instance, u64
             w2c_i1 = (u32)(w2c_j1);
             w2c_i1 = i32_load8_u(&instance->w2c_memory, (u64)(w2c_i1));
             i32_store8(&instance->w2c_memory, (u64)(w2c_i0), w2c_i1);
-            w2c_j0 = w2c_l11;
+            w2c_j0 = w2c_l12;
             w2c_j1 = w2c_l4;
             w2c_j2 = 4ull;
             w2c_j1 += w2c_j2;
@@ -79815,7 +80894,7 @@ static u64 w2c_dine_raw_plan_builder_finish(Z_dine_ffi_instance_t* instance, u64
       w2c_i2 = (u32)(w2c_j2);
       memory_copy(&instance->w2c_memory, &instance->w2c_memory, w2c_i0, w2c_i1, w2c_i2);
       w2c_B14:;
-      w2c_j0 = w2c_l12;
+      w2c_j0 = w2c_l11;
       w2c_j1 = 32ull;
       w2c_j0 += w2c_j1;
       w2c_i0 = (u32)(w2c_j0);
@@ -79836,7 +80915,7 @@ static u64 w2c_dine_raw_plan_builder_finish(Z_dine_ffi_instance_t* instance, u64
       w2c_j1 = 164703072086692425ull;
       w2c_i0 = w2c_j0 > w2c_j1;
       if (w2c_i0) {goto w2c_B10;}
-      w2c_j0 = w2c_l12;
+      w2c_j0 = w2c_l11;
       w2c_j1 = 24ull;
       w2c_j0 += w2c_j1;
       w2c_i0 = (u32)(w2c_j0);
@@ -79848,7 +80927,7 @@ static u64 w2c_dine_raw_plan_builder_finish(Z_dine_ffi_instance_t* instance, u64
       w2c_j1 = w2c_l6;
       w2c_j2 = 56ull;
       w2c_j1 *= w2c_j2;
-      w2c_f136(instance, w2c_j0, w2c_j1);
+      w2c_f140(instance, w2c_j0, w2c_j1);
       w2c_j0 = w2c_l2;
       w2c_i0 = (u32)(w2c_j0);
       w2c_j0 = i64_load(&instance->w2c_memory, (u64)(w2c_i0) + 40u);
@@ -79887,7 +80966,7 @@ static u64 w2c_dine_raw_plan_builder_finish(Z_dine_ffi_instance_t* instance, u64
         w2c_j0 += w2c_j1;
         w2c_i0 = (u32)(w2c_j0);
         w2c_j0 = i64_load8_u(&instance->w2c_memory, (u64)(w2c_i0));
-        w2c_l11 = w2c_j0;
+        w2c_l12 = w2c_j0;
         w2c_j0 = w2c_l4;
         w2c_j1 = 4ull;
         w2c_j0 += w2c_j1;
@@ -79974,7 +81053,7 @@ static u64 w2c_dine_raw_plan_builder_finish(Z_dine_ffi_instance_t* instance, u64
         i64_store(&instance->w2c_memory, (u64)(w2c_i0) + 48, w2c_j1);
         w2c_j0 = w2c_l3;
         w2c_i0 = (u32)(w2c_j0);
-        w2c_j1 = w2c_l11;
+        w2c_j1 = w2c_l12;
         i64_store(&instance->w2c_memory, (u64)(w2c_i0) + 40, w2c_j1);
         w2c_j0 = w2c_l3;
         w2c_i0 = (u32)(w2c_j0);
@@ -80019,12 +81098,18 @@ static u64 w2c_dine_raw_plan_builder_finish(Z_dine_ffi_instance_t* instance, u64
       w2c_j0 = i64_load(&instance->w2c_memory, (u64)(w2c_i0) + 712u);
       w2c_B20:;
       w2c_l4 = w2c_j0;
-      w2c_j0 = w2c_l12;
-      w2c_j1 = 48ull;
+      w2c_j0 = w2c_l11;
+      w2c_j1 = 52ull;
       w2c_j0 += w2c_j1;
       w2c_i0 = (u32)(w2c_j0);
       w2c_i0 = i32_load8_u(&instance->w2c_memory, (u64)(w2c_i0));
       w2c_l18 = w2c_i0;
+      w2c_j0 = w2c_l11;
+      w2c_j1 = 48ull;
+      w2c_j0 += w2c_j1;
+      w2c_i0 = (u32)(w2c_j0);
+      w2c_i0 = i32_load(&instance->w2c_memory, (u64)(w2c_i0));
+      w2c_l20 = w2c_i0;
       w2c_j0 = w2c_l9;
       w2c_j1 = w2c_l2;
       w2c_i1 = (u32)(w2c_j1);
@@ -80051,12 +81136,16 @@ static u64 w2c_dine_raw_plan_builder_finish(Z_dine_ffi_instance_t* instance, u64
       w2c_j0 += w2c_j1;
       w2c_l3 = w2c_j0;
       w2c_i0 = (u32)(w2c_j0);
-      w2c_j1 = 0ull;
-      i64_store32(&instance->w2c_memory, (u64)(w2c_i0) + 49, w2c_j1);
+      w2c_i1 = 0u;
+      i32_store16(&instance->w2c_memory, (u64)(w2c_i0) + 53, w2c_i1);
       w2c_j0 = w2c_l3;
       w2c_i0 = (u32)(w2c_j0);
       w2c_i1 = w2c_l18;
-      i32_store8(&instance->w2c_memory, (u64)(w2c_i0) + 48, w2c_i1);
+      i32_store8(&instance->w2c_memory, (u64)(w2c_i0) + 52, w2c_i1);
+      w2c_j0 = w2c_l3;
+      w2c_i0 = (u32)(w2c_j0);
+      w2c_i1 = w2c_l20;
+      i32_store(&instance->w2c_memory, (u64)(w2c_i0) + 48, w2c_i1);
       w2c_j0 = w2c_l3;
       w2c_i0 = (u32)(w2c_j0);
       w2c_j1 = w2c_l6;
@@ -80085,14 +81174,8 @@ static u64 w2c_dine_raw_plan_builder_finish(Z_dine_ffi_instance_t* instance, u64
       w2c_j1 = 55ull;
       w2c_j0 += w2c_j1;
       w2c_i0 = (u32)(w2c_j0);
-      w2c_j1 = 0ull;
-      i64_store8(&instance->w2c_memory, (u64)(w2c_i0), w2c_j1);
-      w2c_j0 = w2c_l3;
-      w2c_j1 = 53ull;
-      w2c_j0 += w2c_j1;
-      w2c_i0 = (u32)(w2c_j0);
-      w2c_j1 = 0ull;
-      i64_store16(&instance->w2c_memory, (u64)(w2c_i0), w2c_j1);
+      w2c_i1 = 0u;
+      i32_store8(&instance->w2c_memory, (u64)(w2c_i0), w2c_i1);
       w2c_j0 = w2c_l2;
       w2c_i0 = (u32)(w2c_j0);
       w2c_j1 = w2c_l9;
@@ -80153,7 +81236,7 @@ static u64 w2c_dine_raw_plan_builder_finish(Z_dine_ffi_instance_t* instance, u64
   w2c_j0 = w2c_l2;
   w2c_j1 = 744ull;
   w2c_j0 += w2c_j1;
-  w2c_l11 = w2c_j0;
+  w2c_l12 = w2c_j0;
   goto w2c_B7;
   w2c_B11:;
   w2c_j0 = w2c_l2;
@@ -80281,7 +81364,7 @@ static u64 w2c_dine_raw_plan_builder_finish(Z_dine_ffi_instance_t* instance, u64
   w2c_j1 = w2c_l8;
   w2c_j2 = 4ull;
   w2c_j1 <<= (w2c_j2 & 63);
-  w2c_f136(instance, w2c_j0, w2c_j1);
+  w2c_f140(instance, w2c_j0, w2c_j1);
   w2c_j0 = w2c_l2;
   w2c_i0 = (u32)(w2c_j0);
   w2c_j0 = i64_load(&instance->w2c_memory, (u64)(w2c_i0) + 24u);
@@ -80293,13 +81376,13 @@ static u64 w2c_dine_raw_plan_builder_finish(Z_dine_ffi_instance_t* instance, u64
   w2c_j0 = w2c_l2;
   w2c_i0 = (u32)(w2c_j0);
   w2c_j0 = i64_load(&instance->w2c_memory, (u64)(w2c_i0) + 32u);
-  w2c_l11 = w2c_j0;
+  w2c_l12 = w2c_j0;
   w2c_j0 = w2c_l8;
   w2c_j1 = 3ull;
   w2c_j0 &= w2c_j1;
   w2c_l6 = w2c_j0;
   w2c_j0 = 0ull;
-  w2c_l12 = w2c_j0;
+  w2c_l11 = w2c_j0;
   w2c_j0 = w2c_l8;
   w2c_j1 = 4ull;
   w2c_i0 = w2c_j0 >= w2c_j1;
@@ -80312,7 +81395,7 @@ static u64 w2c_dine_raw_plan_builder_finish(Z_dine_ffi_instance_t* instance, u64
     w2c_l3 = w2c_j0;
     w2c_j1 = 2ull;
     w2c_j0 <<= (w2c_j1 & 63);
-    w2c_l12 = w2c_j0;
+    w2c_l11 = w2c_j0;
     w2c_j0 = w2c_l3;
     w2c_j1 = 6ull;
     w2c_j0 <<= (w2c_j1 & 63);
@@ -80328,7 +81411,7 @@ static u64 w2c_dine_raw_plan_builder_finish(Z_dine_ffi_instance_t* instance, u64
       w2c_j0 = i64_load(&instance->w2c_memory, (u64)(w2c_i0));
       w2c_l7 = w2c_j0;
       w2c_j0 = w2c_l5;
-      w2c_j1 = w2c_l11;
+      w2c_j1 = w2c_l12;
       w2c_j0 += w2c_j1;
       w2c_l4 = w2c_j0;
       w2c_i0 = (u32)(w2c_j0);
@@ -80417,7 +81500,7 @@ static u64 w2c_dine_raw_plan_builder_finish(Z_dine_ffi_instance_t* instance, u64
     w2c_i0 = !(w2c_j0);
     if (w2c_i0) {goto w2c_B7;}
   }
-  w2c_j0 = w2c_l12;
+  w2c_j0 = w2c_l11;
   w2c_j1 = 4ull;
   w2c_j0 <<= (w2c_j1 & 63);
   w2c_l3 = w2c_j0;
@@ -80430,7 +81513,7 @@ static u64 w2c_dine_raw_plan_builder_finish(Z_dine_ffi_instance_t* instance, u64
     w2c_j0 = i64_load(&instance->w2c_memory, (u64)(w2c_i0));
     w2c_l5 = w2c_j0;
     w2c_j0 = w2c_l3;
-    w2c_j1 = w2c_l11;
+    w2c_j1 = w2c_l12;
     w2c_j0 += w2c_j1;
     w2c_l7 = w2c_j0;
     w2c_i0 = (u32)(w2c_j0);
@@ -80480,7 +81563,7 @@ static u64 w2c_dine_raw_plan_builder_finish(Z_dine_ffi_instance_t* instance, u64
   i64_store(&instance->w2c_memory, (u64)(w2c_i0) + 472, w2c_j1);
   w2c_j0 = w2c_l2;
   w2c_i0 = (u32)(w2c_j0);
-  w2c_j1 = 2ull;
+  w2c_j1 = 18446744069414584322ull;
   i64_store(&instance->w2c_memory, (u64)(w2c_i0) + 400, w2c_j1);
   w2c_j0 = w2c_l2;
   w2c_i0 = (u32)(w2c_j0);
@@ -80492,7 +81575,7 @@ static u64 w2c_dine_raw_plan_builder_finish(Z_dine_ffi_instance_t* instance, u64
   i64_store(&instance->w2c_memory, (u64)(w2c_i0) + 440, w2c_j1);
   w2c_j0 = w2c_l2;
   w2c_i0 = (u32)(w2c_j0);
-  w2c_j1 = w2c_l11;
+  w2c_j1 = w2c_l12;
   i64_store(&instance->w2c_memory, (u64)(w2c_i0) + 432, w2c_j1);
   w2c_j0 = w2c_l2;
   w2c_i0 = (u32)(w2c_j0);
@@ -80586,11 +81669,11 @@ static u64 w2c_dine_raw_plan_builder_finish(Z_dine_ffi_instance_t* instance, u64
   w2c_j0 = w2c_l2;
   w2c_i0 = (u32)(w2c_j0);
   w2c_j0 = i64_load(&instance->w2c_memory, (u64)(w2c_i0) + 600u);
-  w2c_l11 = w2c_j0;
+  w2c_l12 = w2c_j0;
   w2c_j0 = w2c_l2;
   w2c_i0 = (u32)(w2c_j0);
   w2c_j0 = i64_load(&instance->w2c_memory, (u64)(w2c_i0) + 608u);
-  w2c_l12 = w2c_j0;
+  w2c_l11 = w2c_j0;
   w2c_j0 = w2c_l2;
   w2c_i0 = (u32)(w2c_j0);
   w2c_j0 = i64_load(&instance->w2c_memory, (u64)(w2c_i0) + 616u);
@@ -80624,7 +81707,7 @@ static u64 w2c_dine_raw_plan_builder_finish(Z_dine_ffi_instance_t* instance, u64
     w2c_j1 = 8ull;
     w2c_j0 += w2c_j1;
     w2c_j1 = 136ull;
-    w2c_f136(instance, w2c_j0, w2c_j1);
+    w2c_f140(instance, w2c_j0, w2c_j1);
     w2c_j0 = w2c_l2;
     w2c_i0 = (u32)(w2c_j0);
     w2c_j0 = i64_load(&instance->w2c_memory, (u64)(w2c_i0) + 8u);
@@ -80683,7 +81766,7 @@ static u64 w2c_dine_raw_plan_builder_finish(Z_dine_ffi_instance_t* instance, u64
           w2c_i0 = w2c_j0 != w2c_j1;
           if (w2c_i0) {goto w2c_L40;}
       }
-      w2c_j0 = w2c_l11;
+      w2c_j0 = w2c_l12;
       w2c_i0 = !(w2c_j0);
       w2c_i0 = !(w2c_i0);
       if (w2c_i0) {
@@ -80695,7 +81778,7 @@ static u64 w2c_dine_raw_plan_builder_finish(Z_dine_ffi_instance_t* instance, u64
       w2c_j0 = w2c_l9;
       w2c_i0 = !(w2c_j0);
       if (w2c_i0) {goto w2c_B3;}
-      w2c_j0 = w2c_l12;
+      w2c_j0 = w2c_l11;
       w2c_leave(instance, w2c_j0);
       goto w2c_B3;
     }
@@ -80738,11 +81821,11 @@ static u64 w2c_dine_raw_plan_builder_finish(Z_dine_ffi_instance_t* instance, u64
     i64_store(&instance->w2c_memory, (u64)(w2c_i0) + 120, w2c_j1);
     w2c_j0 = w2c_l3;
     w2c_i0 = (u32)(w2c_j0);
-    w2c_j1 = w2c_l12;
+    w2c_j1 = w2c_l11;
     i64_store(&instance->w2c_memory, (u64)(w2c_i0) + 112, w2c_j1);
     w2c_j0 = w2c_l3;
     w2c_i0 = (u32)(w2c_j0);
-    w2c_j1 = w2c_l11;
+    w2c_j1 = w2c_l12;
     i64_store(&instance->w2c_memory, (u64)(w2c_i0) + 104, w2c_j1);
     w2c_j0 = w2c_l3;
     w2c_i0 = (u32)(w2c_j0);
@@ -80796,7 +81879,7 @@ static u64 w2c_dine_raw_plan_builder_finish(Z_dine_ffi_instance_t* instance, u64
   w2c_j1 = 3ull;
   w2c_j0 <<= (w2c_j1 & 63);
   w2c_i0 = (u32)(w2c_j0);
-  w2c_j0 = i64_load(&instance->w2c_memory, (u64)(w2c_i0) + 1060440u);
+  w2c_j0 = i64_load(&instance->w2c_memory, (u64)(w2c_i0) + 1060312u);
   w2c_l3 = w2c_j0;
   goto w2c_B3;
   w2c_B6:;
@@ -80891,7 +81974,7 @@ static u64 w2c_dine_raw_plan_builder_resign(Z_dine_ffi_instance_t* instance, u64
     w2c_j2 = 56ull;
     w2c_j1 *= w2c_j2;
     w2c_j0 += w2c_j1;
-    w2c_j1 = 48ull;
+    w2c_j1 = 52ull;
     w2c_j0 += w2c_j1;
     w2c_i0 = (u32)(w2c_j0);
     w2c_i1 = 1u;
@@ -81150,7 +82233,7 @@ static u64 w2c_dine_raw_plan_builder_site(Z_dine_ffi_instance_t* instance, u64 w
       w2c_j2 = 40ull;
       w2c_j1 += w2c_j2;
       w2c_j2 = w2c_l6;
-      w2c_f136(instance, w2c_j1, w2c_j2);
+      w2c_f140(instance, w2c_j1, w2c_j2);
       w2c_j1 = w2c_l4;
       w2c_i1 = (u32)(w2c_j1);
       w2c_j1 = i64_load(&instance->w2c_memory, (u64)(w2c_i1) + 40u);
@@ -81353,7 +82436,7 @@ static u64 w2c_dine_raw_plan_builder_site(Z_dine_ffi_instance_t* instance, u64 w
       w2c_j2 = 24ull;
       w2c_j1 += w2c_j2;
       w2c_j2 = w2c_l6;
-      w2c_f136(instance, w2c_j1, w2c_j2);
+      w2c_f140(instance, w2c_j1, w2c_j2);
       w2c_j1 = w2c_l4;
       w2c_i1 = (u32)(w2c_j1);
       w2c_j1 = i64_load(&instance->w2c_memory, (u64)(w2c_i1) + 24u);
@@ -81501,7 +82584,7 @@ static u64 w2c_dine_raw_plan_builder_site(Z_dine_ffi_instance_t* instance, u64 w
     w2c_p1 = w2c_j1;
     w2c_j2 = 24ull;
     w2c_j1 *= w2c_j2;
-    w2c_f136(instance, w2c_j0, w2c_j1);
+    w2c_f140(instance, w2c_j0, w2c_j1);
     w2c_j0 = w2c_l4;
     w2c_i0 = (u32)(w2c_j0);
     w2c_j0 = i64_load(&instance->w2c_memory, (u64)(w2c_i0) + 8u);
@@ -81721,11 +82804,7 @@ static u64 w2c_dine_raw_plan_builder_site(Z_dine_ffi_instance_t* instance, u64 w
     w2c_p1 = w2c_j0;
     w2c_i0 = (u32)(w2c_j0);
     w2c_j1 = 0ull;
-    i64_store32(&instance->w2c_memory, (u64)(w2c_i0) + 49, w2c_j1);
-    w2c_j0 = w2c_p1;
-    w2c_i0 = (u32)(w2c_j0);
-    w2c_i1 = 0u;
-    i32_store8(&instance->w2c_memory, (u64)(w2c_i0) + 48, w2c_i1);
+    i64_store(&instance->w2c_memory, (u64)(w2c_i0) + 48, w2c_j1);
     w2c_j0 = w2c_p1;
     w2c_i0 = (u32)(w2c_j0);
     w2c_j1 = w2c_l10;
@@ -81750,18 +82829,6 @@ static u64 w2c_dine_raw_plan_builder_site(Z_dine_ffi_instance_t* instance, u64 w
     w2c_i0 = (u32)(w2c_j0);
     w2c_j1 = w2c_l11;
     i64_store(&instance->w2c_memory, (u64)(w2c_i0), w2c_j1);
-    w2c_j0 = w2c_p1;
-    w2c_j1 = 55ull;
-    w2c_j0 += w2c_j1;
-    w2c_i0 = (u32)(w2c_j0);
-    w2c_j1 = 0ull;
-    i64_store8(&instance->w2c_memory, (u64)(w2c_i0), w2c_j1);
-    w2c_j0 = w2c_p1;
-    w2c_j1 = 53ull;
-    w2c_j0 += w2c_j1;
-    w2c_i0 = (u32)(w2c_j0);
-    w2c_j1 = 0ull;
-    i64_store16(&instance->w2c_memory, (u64)(w2c_i0), w2c_j1);
     w2c_j0 = w2c_l12;
     w2c_i0 = (u32)(w2c_j0);
     w2c_j1 = w2c_l8;
@@ -81983,10 +83050,18 @@ static u64 w2c_dine_raw_plan_jobs(Z_dine_ffi_instance_t* instance, u64 w2c_p0, u
     w2c_j2 = 56ull;
     w2c_j1 *= w2c_j2;
     w2c_j0 += w2c_j1;
-    w2c_j1 = 32ull;
+    w2c_l2 = w2c_j0;
+    w2c_j1 = 48ull;
     w2c_j0 += w2c_j1;
     w2c_i0 = (u32)(w2c_j0);
-    w2c_j0 = i64_load32_u(&instance->w2c_memory, (u64)(w2c_i0));
+    w2c_i0 = i32_load(&instance->w2c_memory, (u64)(w2c_i0));
+    w2c_j1 = w2c_l2;
+    w2c_j2 = 32ull;
+    w2c_j1 += w2c_j2;
+    w2c_i1 = (u32)(w2c_j1);
+    w2c_i1 = i32_load(&instance->w2c_memory, (u64)(w2c_i1));
+    w2c_i0 += w2c_i1;
+    w2c_j0 = (u64)(w2c_i0);
     w2c_B1:;
     w2c_l2 = w2c_j0;
     w2c_j0 = w2c_p0;
@@ -82343,20 +83418,20 @@ static u64 w2c_dine_raw_plan_version(Z_dine_ffi_instance_t* instance, u64 w2c_p0
 }
 
 static u64 w2c_dine_raw_site_act(Z_dine_ffi_instance_t* instance, u64 w2c_p0, u64 w2c_p1, u64 w2c_p2, u64 w2c_p3) {
-  u32 w2c_l9 = 0, w2c_l10 = 0;
-  u64 w2c_l4 = 0, w2c_l5 = 0, w2c_l6 = 0, w2c_l7 = 0, w2c_l8 = 0;
+  u32 w2c_l7 = 0;
+  u64 w2c_l4 = 0, w2c_l5 = 0, w2c_l6 = 0;
   FUNC_PROLOGUE;
-  u32 w2c_i0, w2c_i1, w2c_i2, w2c_i3;
-  u64 w2c_j0, w2c_j1, w2c_j2, w2c_j3, w2c_j4;
+  u32 w2c_i0, w2c_i1, w2c_i5;
+  u64 w2c_j0, w2c_j1, w2c_j2, w2c_j3, w2c_j4, w2c_j5;
   w2c_j0 = instance->w2c_g0;
-  w2c_j1 = 32ull;
+  w2c_j1 = 16ull;
   w2c_j0 -= w2c_j1;
-  w2c_l6 = w2c_j0;
+  w2c_l4 = w2c_j0;
   instance->w2c_g0 = w2c_j0;
   w2c_j0 = w2c_p0;
   w2c_i0 = (u32)(w2c_j0);
   w2c_j0 = i64_load(&instance->w2c_memory, (u64)(w2c_i0));
-  w2c_l4 = w2c_j0;
+  w2c_l6 = w2c_j0;
   w2c_j0 = w2c_p0;
   w2c_i0 = (u32)(w2c_j0);
   w2c_j1 = 0ull;
@@ -82364,726 +83439,66 @@ static u64 w2c_dine_raw_site_act(Z_dine_ffi_instance_t* instance, u64 w2c_p0, u6
   w2c_j0 = w2c_p0;
   w2c_i0 = (u32)(w2c_j0);
   w2c_i0 = i32_load(&instance->w2c_memory, (u64)(w2c_i0) + 8u);
-  w2c_l9 = w2c_i0;
+  w2c_l7 = w2c_i0;
   w2c_j0 = w2c_p0;
   w2c_i0 = (u32)(w2c_j0);
   w2c_j1 = 0ull;
   i64_store(&instance->w2c_memory, (u64)(w2c_i0) + 8, w2c_j1);
   w2c_j0 = 18446744073709551615ull;
   w2c_l5 = w2c_j0;
-  w2c_i0 = w2c_l9;
+  w2c_i0 = w2c_l7;
   w2c_i1 = 1701734756u;
   w2c_i0 = w2c_i0 == w2c_i1;
   if (w2c_i0) {
-    w2c_j0 = w2c_l4;
+    w2c_j0 = 18446744073709551614ull;
+    w2c_l5 = w2c_j0;
+    w2c_j0 = w2c_l6;
     w2c_i0 = (u32)(w2c_j0);
     w2c_i0 = i32_load8_u(&instance->w2c_memory, (u64)(w2c_i0));
     w2c_i1 = 2u;
-    w2c_i0 = w2c_i0 != w2c_i1;
-    if (w2c_i0) {
-      w2c_j0 = 18446744073709551614ull;
-      w2c_l5 = w2c_j0;
-      goto w2c_B2;
-    }
-    w2c_j0 = 18446744073709551612ull;
-    w2c_l5 = w2c_j0;
-    w2c_j0 = w2c_p1;
-    w2c_i0 = (u32)(w2c_j0);
-    w2c_i0 = i32_load(&instance->w2c_memory, (u64)(w2c_i0));
-    w2c_l9 = w2c_i0;
-    w2c_j1 = w2c_l4;
-    w2c_j2 = 24ull;
-    w2c_j1 += w2c_j2;
-    w2c_l8 = w2c_j1;
-    w2c_i1 = (u32)(w2c_j1);
-    w2c_i1 = i32_load(&instance->w2c_memory, (u64)(w2c_i1));
-    w2c_i0 = w2c_i0 != w2c_i1;
-    if (w2c_i0) {goto w2c_B2;}
-    w2c_j0 = w2c_p2;
-    w2c_j1 = 4096ull;
-    w2c_j2 = 0ull;
-    w2c_j3 = w2c_p2;
-    w2c_i3 = !(w2c_j3);
-    w2c_j1 = w2c_i3 ? w2c_j1 : w2c_j2;
-    w2c_j0 += w2c_j1;
-    w2c_l7 = w2c_j0;
-    w2c_j0 = w2c_l4;
-    w2c_j1 = 8ull;
-    w2c_j0 += w2c_j1;
-    w2c_p2 = w2c_j0;
-    w2c_j0 = w2c_p1;
-    w2c_i0 = (u32)(w2c_j0);
-    w2c_i0 = i32_load(&instance->w2c_memory, (u64)(w2c_i0) + 8u);
-    w2c_l10 = w2c_i0;
-    w2c_j0 = w2c_p1;
-    w2c_i0 = (u32)(w2c_j0);
-    w2c_i0 = i32_load(&instance->w2c_memory, (u64)(w2c_i0) + 4u);
-    w2c_i1 = 1u;
-    w2c_i0 -= w2c_i1;
-    switch (w2c_i0) {
-      case 0: goto w2c_B8;
-      case 1: goto w2c_B10;
-      case 2: goto w2c_B11;
-      case 3: goto w2c_B9;
-      case 4: goto w2c_B12;
-      case 5: goto w2c_B7;
-      case 6: goto w2c_B6;
-      case 7: goto w2c_B5;
-      default: goto w2c_B2;
-    }
-    w2c_B12:;
-    w2c_j0 = w2c_l4;
-    w2c_j1 = 216ull;
-    w2c_j0 += w2c_j1;
-    w2c_i0 = (u32)(w2c_j0);
-    w2c_i0 = i32_load8_u(&instance->w2c_memory, (u64)(w2c_i0));
-    w2c_i1 = 1u;
     w2c_i0 = w2c_i0 == w2c_i1;
-    if (w2c_i0) {
-      w2c_j0 = 18446744073709551609ull;
-      w2c_l5 = w2c_j0;
-      goto w2c_B2;
-    }
-    w2c_j0 = 18446744073709551613ull;
-    w2c_l5 = w2c_j0;
-    w2c_j0 = w2c_l4;
-    w2c_j1 = 57ull;
-    w2c_j0 += w2c_j1;
-    w2c_i0 = (u32)(w2c_j0);
-    w2c_i0 = i32_load8_u(&instance->w2c_memory, (u64)(w2c_i0));
-    if (w2c_i0) {goto w2c_B2;}
-    w2c_j0 = w2c_l4;
-    w2c_j1 = 60ull;
-    w2c_j0 += w2c_j1;
-    w2c_i0 = (u32)(w2c_j0);
-    w2c_i0 = i32_load(&instance->w2c_memory, (u64)(w2c_i0));
-    w2c_j1 = w2c_l4;
-    w2c_j2 = 28ull;
-    w2c_j1 += w2c_j2;
-    w2c_i1 = (u32)(w2c_j1);
-    w2c_i1 = i32_load(&instance->w2c_memory, (u64)(w2c_i1));
-    w2c_i0 = w2c_i0 >= w2c_i1;
-    if (w2c_i0) {goto w2c_B2;}
-    w2c_j0 = w2c_l4;
-    w2c_j1 = 18446744073709551552ull;
-    w2c_j0 -= w2c_j1;
-    w2c_i0 = (u32)(w2c_j0);
-    w2c_i0 = i32_load8_u(&instance->w2c_memory, (u64)(w2c_i0));
-    if (w2c_i0) {goto w2c_B2;}
-    w2c_j0 = w2c_l4;
-    w2c_j1 = 65ull;
-    w2c_j0 += w2c_j1;
-    w2c_i0 = (u32)(w2c_j0);
-    w2c_i0 = i32_load8_u(&instance->w2c_memory, (u64)(w2c_i0));
-    if (w2c_i0) {goto w2c_B2;}
-    w2c_j0 = w2c_l4;
-    w2c_j1 = 57ull;
-    w2c_j0 += w2c_j1;
-    w2c_i0 = (u32)(w2c_j0);
-    w2c_i1 = 1u;
-    i32_store8(&instance->w2c_memory, (u64)(w2c_i0), w2c_i1);
-    w2c_j0 = 0ull;
-    w2c_l5 = w2c_j0;
-    goto w2c_B2;
-    w2c_B11:;
-    w2c_j0 = w2c_l6;
-    w2c_i0 = (u32)(w2c_j0);
-    w2c_j1 = 0ull;
-    i64_store(&instance->w2c_memory, (u64)(w2c_i0) + 24, w2c_j1);
-    w2c_j0 = w2c_l6;
-    w2c_i0 = (u32)(w2c_j0);
-    w2c_j1 = 0ull;
-    i64_store(&instance->w2c_memory, (u64)(w2c_i0) + 16, w2c_j1);
-    w2c_j0 = w2c_l6;
-    w2c_i0 = (u32)(w2c_j0);
-    w2c_j1 = 0ull;
-    i64_store(&instance->w2c_memory, (u64)(w2c_i0) + 8, w2c_j1);
-    w2c_j0 = w2c_l6;
-    w2c_i0 = (u32)(w2c_j0);
-    w2c_j1 = 0ull;
-    i64_store(&instance->w2c_memory, (u64)(w2c_i0), w2c_j1);
-    w2c_j0 = w2c_l4;
-    w2c_j1 = 216ull;
-    w2c_j0 += w2c_j1;
-    w2c_i0 = (u32)(w2c_j0);
-    w2c_i0 = i32_load8_u(&instance->w2c_memory, (u64)(w2c_i0));
-    w2c_i1 = 1u;
-    w2c_i0 = w2c_i0 == w2c_i1;
-    if (w2c_i0) {
-      w2c_j0 = 18446744073709551609ull;
-      w2c_l5 = w2c_j0;
-      goto w2c_B2;
-    }
-    w2c_j0 = 18446744073709551613ull;
-    w2c_l5 = w2c_j0;
-    w2c_j0 = w2c_l4;
-    w2c_j1 = 57ull;
-    w2c_j0 += w2c_j1;
-    w2c_i0 = (u32)(w2c_j0);
-    w2c_i0 = i32_load8_u(&instance->w2c_memory, (u64)(w2c_i0));
-    w2c_i1 = 1u;
-    w2c_i0 = w2c_i0 != w2c_i1;
-    if (w2c_i0) {goto w2c_B2;}
-    w2c_j0 = w2c_l4;
-    w2c_j1 = 96ull;
-    w2c_j0 += w2c_j1;
-    w2c_i0 = (u32)(w2c_j0);
-    w2c_j0 = i64_load(&instance->w2c_memory, (u64)(w2c_i0));
-    w2c_j1 = 0ull;
-    w2c_i0 = w2c_j0 != w2c_j1;
-    if (w2c_i0) {goto w2c_B2;}
-    w2c_j0 = w2c_l4;
-    w2c_j1 = 112ull;
-    w2c_j0 += w2c_j1;
-    w2c_i0 = (u32)(w2c_j0);
-    w2c_j0 = i64_load(&instance->w2c_memory, (u64)(w2c_i0));
-    w2c_j1 = w2c_l4;
-    w2c_j2 = 104ull;
-    w2c_j1 += w2c_j2;
-    w2c_i1 = (u32)(w2c_j1);
-    w2c_j1 = i64_load(&instance->w2c_memory, (u64)(w2c_i1));
-    w2c_j0 &= w2c_j1;
-    w2c_j1 = 0ull;
-    w2c_i0 = w2c_j0 != w2c_j1;
-    if (w2c_i0) {goto w2c_B2;}
-    w2c_j0 = w2c_l6;
-    w2c_j1 = w2c_l8;
-    w2c_f74(instance, w2c_j0, w2c_j1);
-    w2c_j0 = w2c_l4;
-    w2c_j1 = 216ull;
-    w2c_j0 += w2c_j1;
-    w2c_l5 = w2c_j0;
-    w2c_i0 = (u32)(w2c_j0);
-    w2c_i0 = i32_load8_u(&instance->w2c_memory, (u64)(w2c_i0));
-    w2c_l9 = w2c_i0;
-    w2c_j0 = w2c_l5;
-    w2c_i0 = (u32)(w2c_j0);
-    w2c_j1 = 1ull;
-    i64_store(&instance->w2c_memory, (u64)(w2c_i0), w2c_j1);
-    w2c_j0 = w2c_l4;
-    w2c_j1 = 224ull;
-    w2c_j0 += w2c_j1;
-    w2c_i0 = (u32)(w2c_j0);
-    w2c_j1 = w2c_l6;
-    w2c_i1 = (u32)(w2c_j1);
-    w2c_j1 = i64_load(&instance->w2c_memory, (u64)(w2c_i1));
-    i64_store(&instance->w2c_memory, (u64)(w2c_i0), w2c_j1);
-    w2c_j0 = w2c_l4;
-    w2c_j1 = 232ull;
-    w2c_j0 += w2c_j1;
-    w2c_i0 = (u32)(w2c_j0);
-    w2c_j1 = w2c_l6;
-    w2c_i1 = (u32)(w2c_j1);
-    w2c_j1 = i64_load(&instance->w2c_memory, (u64)(w2c_i1) + 8u);
-    i64_store(&instance->w2c_memory, (u64)(w2c_i0), w2c_j1);
-    w2c_j0 = w2c_l4;
-    w2c_j1 = 240ull;
-    w2c_j0 += w2c_j1;
-    w2c_i0 = (u32)(w2c_j0);
-    w2c_j1 = w2c_l6;
-    w2c_i1 = (u32)(w2c_j1);
-    w2c_j1 = i64_load(&instance->w2c_memory, (u64)(w2c_i1) + 16u);
-    i64_store(&instance->w2c_memory, (u64)(w2c_i0), w2c_j1);
-    w2c_j0 = w2c_l4;
-    w2c_j1 = 248ull;
-    w2c_j0 += w2c_j1;
-    w2c_i0 = (u32)(w2c_j0);
-    w2c_j1 = w2c_l6;
-    w2c_i1 = (u32)(w2c_j1);
-    w2c_j1 = i64_load(&instance->w2c_memory, (u64)(w2c_i1) + 24u);
-    i64_store(&instance->w2c_memory, (u64)(w2c_i0), w2c_j1);
-    w2c_i0 = w2c_l9;
-    w2c_i1 = 1u;
-    w2c_i0 = w2c_i0 == w2c_i1;
-    if (w2c_i0) {goto w2c_B0;}
-    w2c_j0 = 0ull;
-    w2c_l5 = w2c_j0;
-    goto w2c_B2;
-    w2c_B10:;
-    w2c_j0 = w2c_l4;
-    w2c_j1 = 224ull;
-    w2c_j0 += w2c_j1;
-    w2c_l5 = w2c_j0;
-    w2c_i0 = (u32)(w2c_j0);
-    w2c_j0 = i64_load(&instance->w2c_memory, (u64)(w2c_i0));
-    w2c_p1 = w2c_j0;
-    w2c_j0 = w2c_l5;
-    w2c_i0 = (u32)(w2c_j0);
-    w2c_j1 = 0ull;
-    i64_store(&instance->w2c_memory, (u64)(w2c_i0), w2c_j1);
-    w2c_j0 = w2c_l4;
-    w2c_j1 = 232ull;
-    w2c_j0 += w2c_j1;
-    w2c_l5 = w2c_j0;
-    w2c_i0 = (u32)(w2c_j0);
-    w2c_j0 = i64_load(&instance->w2c_memory, (u64)(w2c_i0));
-    w2c_p2 = w2c_j0;
-    w2c_j0 = w2c_l5;
-    w2c_i0 = (u32)(w2c_j0);
-    w2c_j1 = 0ull;
-    i64_store(&instance->w2c_memory, (u64)(w2c_i0), w2c_j1);
-    w2c_j0 = w2c_l4;
-    w2c_j1 = 240ull;
-    w2c_j0 += w2c_j1;
-    w2c_l5 = w2c_j0;
-    w2c_i0 = (u32)(w2c_j0);
-    w2c_j0 = i64_load(&instance->w2c_memory, (u64)(w2c_i0));
-    w2c_p3 = w2c_j0;
-    w2c_j0 = w2c_l5;
-    w2c_i0 = (u32)(w2c_j0);
-    w2c_j1 = 0ull;
-    i64_store(&instance->w2c_memory, (u64)(w2c_i0), w2c_j1);
-    w2c_j0 = w2c_l4;
-    w2c_j1 = 248ull;
-    w2c_j0 += w2c_j1;
-    w2c_l5 = w2c_j0;
-    w2c_i0 = (u32)(w2c_j0);
-    w2c_j0 = i64_load(&instance->w2c_memory, (u64)(w2c_i0));
-    w2c_l7 = w2c_j0;
-    w2c_j0 = w2c_l5;
-    w2c_i0 = (u32)(w2c_j0);
-    w2c_j1 = 0ull;
-    i64_store(&instance->w2c_memory, (u64)(w2c_i0), w2c_j1);
-    w2c_j0 = w2c_l4;
-    w2c_j1 = 216ull;
-    w2c_j0 += w2c_j1;
-    w2c_l5 = w2c_j0;
-    w2c_i0 = (u32)(w2c_j0);
-    w2c_i0 = i32_load8_u(&instance->w2c_memory, (u64)(w2c_i0));
-    w2c_l9 = w2c_i0;
-    w2c_j0 = w2c_l5;
-    w2c_i0 = (u32)(w2c_j0);
-    w2c_j1 = 0ull;
-    i64_store(&instance->w2c_memory, (u64)(w2c_i0), w2c_j1);
-    w2c_j0 = w2c_l6;
-    w2c_i0 = (u32)(w2c_j0);
-    w2c_j1 = w2c_p1;
-    i64_store(&instance->w2c_memory, (u64)(w2c_i0), w2c_j1);
-    w2c_j0 = w2c_l6;
-    w2c_i0 = (u32)(w2c_j0);
-    w2c_j1 = w2c_p2;
-    i64_store(&instance->w2c_memory, (u64)(w2c_i0) + 8, w2c_j1);
-    w2c_j0 = w2c_l6;
-    w2c_i0 = (u32)(w2c_j0);
-    w2c_j1 = w2c_p3;
-    i64_store(&instance->w2c_memory, (u64)(w2c_i0) + 16, w2c_j1);
-    w2c_j0 = w2c_l6;
-    w2c_i0 = (u32)(w2c_j0);
-    w2c_j1 = w2c_l7;
-    i64_store(&instance->w2c_memory, (u64)(w2c_i0) + 24, w2c_j1);
-    w2c_j0 = 18446744073709551613ull;
-    w2c_l5 = w2c_j0;
-    w2c_i0 = w2c_l9;
-    w2c_i1 = 1u;
-    w2c_i0 = w2c_i0 != w2c_i1;
-    if (w2c_i0) {goto w2c_B2;}
-    w2c_j0 = w2c_l8;
-    w2c_j1 = w2c_l6;
-    w2c_i2 = 0u;
-    w2c_f7(instance, w2c_j0, w2c_j1, w2c_i2);
-    w2c_j0 = 0ull;
-    w2c_l5 = w2c_j0;
-    goto w2c_B2;
-    w2c_B9:;
-    w2c_j0 = w2c_l4;
-    w2c_j1 = 216ull;
-    w2c_j0 += w2c_j1;
-    w2c_i0 = (u32)(w2c_j0);
-    w2c_i0 = i32_load8_u(&instance->w2c_memory, (u64)(w2c_i0));
-    w2c_i1 = 1u;
-    w2c_i0 = w2c_i0 == w2c_i1;
-    if (w2c_i0) {
-      w2c_j0 = 18446744073709551609ull;
-      w2c_l5 = w2c_j0;
-      goto w2c_B2;
-    }
-    w2c_j0 = 18446744073709551613ull;
-    w2c_l5 = w2c_j0;
-    w2c_j0 = w2c_l4;
-    w2c_j1 = 57ull;
-    w2c_j0 += w2c_j1;
-    w2c_i0 = (u32)(w2c_j0);
-    w2c_i0 = i32_load8_u(&instance->w2c_memory, (u64)(w2c_i0));
-    if (w2c_i0) {goto w2c_B2;}
-    w2c_j0 = w2c_l4;
-    w2c_j1 = 18446744073709551552ull;
-    w2c_j0 -= w2c_j1;
-    w2c_p1 = w2c_j0;
-    w2c_i0 = (u32)(w2c_j0);
-    w2c_i0 = i32_load8_u(&instance->w2c_memory, (u64)(w2c_i0));
-    w2c_i1 = 1u;
-    w2c_i0 = w2c_i0 != w2c_i1;
-    if (w2c_i0) {goto w2c_B2;}
-    w2c_j0 = w2c_p1;
-    w2c_i0 = (u32)(w2c_j0);
-    w2c_i1 = 256u;
-    i32_store16(&instance->w2c_memory, (u64)(w2c_i0), w2c_i1);
-    w2c_j0 = 0ull;
-    w2c_l5 = w2c_j0;
-    goto w2c_B2;
-    w2c_B8:;
-    w2c_j0 = w2c_p2;
-    w2c_i1 = 0u;
-    w2c_i2 = w2c_l10;
-    w2c_j3 = w2c_l7;
-    w2c_j4 = w2c_p3;
-    w2c_j0 = w2c_f75(instance, w2c_j0, w2c_i1, w2c_i2, w2c_j3, w2c_j4);
-    w2c_l5 = w2c_j0;
-    goto w2c_B2;
-    w2c_B7:;
-    w2c_j0 = w2c_p2;
-    w2c_i1 = 1u;
-    w2c_i2 = w2c_l10;
-    w2c_j3 = w2c_l7;
-    w2c_j4 = w2c_p3;
-    w2c_j0 = w2c_f75(instance, w2c_j0, w2c_i1, w2c_i2, w2c_j3, w2c_j4);
-    w2c_l5 = w2c_j0;
-    goto w2c_B2;
-    w2c_B6:;
-    w2c_j0 = w2c_l4;
-    w2c_j1 = 216ull;
-    w2c_j0 += w2c_j1;
-    w2c_i0 = (u32)(w2c_j0);
-    w2c_i0 = i32_load8_u(&instance->w2c_memory, (u64)(w2c_i0));
-    w2c_i1 = 1u;
-    w2c_i0 = w2c_i0 == w2c_i1;
-    if (w2c_i0) {
-      w2c_j0 = 18446744073709551609ull;
-      w2c_l5 = w2c_j0;
-      goto w2c_B2;
-    }
-    w2c_j0 = w2c_p3;
-    w2c_j1 = 29ull;
-    w2c_i0 = w2c_j0 < w2c_j1;
-    if (w2c_i0) {
-      w2c_j0 = 18446744073709551610ull;
-      w2c_l5 = w2c_j0;
-      goto w2c_B2;
-    }
-    w2c_i0 = w2c_l9;
-    w2c_j1 = w2c_p2;
-    w2c_i1 = (u32)(w2c_j1);
-    w2c_j1 = i64_load(&instance->w2c_memory, (u64)(w2c_i1));
-    w2c_p1 = w2c_j1;
-    w2c_j2 = 24ull;
-    w2c_j1 += w2c_j2;
-    w2c_i1 = (u32)(w2c_j1);
-    w2c_i1 = i32_load(&instance->w2c_memory, (u64)(w2c_i1));
-    w2c_i0 = w2c_i0 >= w2c_i1;
-    if (w2c_i0) {goto w2c_B2;}
-    w2c_j0 = w2c_p1;
-    w2c_j1 = 88ull;
-    w2c_j0 += w2c_j1;
-    w2c_i0 = (u32)(w2c_j0);
-    w2c_j0 = i64_load(&instance->w2c_memory, (u64)(w2c_i0));
-    w2c_i1 = w2c_l9;
-    w2c_j1 = (u64)(w2c_i1);
-    w2c_j2 = 24ull;
-    w2c_j1 *= w2c_j2;
-    w2c_j0 += w2c_j1;
-    w2c_p2 = w2c_j0;
-    w2c_j1 = 8ull;
-    w2c_j0 += w2c_j1;
-    w2c_i0 = (u32)(w2c_j0);
-    w2c_j0 = i64_load(&instance->w2c_memory, (u64)(w2c_i0));
-    w2c_i1 = w2c_l10;
-    w2c_j1 = (u64)(w2c_i1);
-    w2c_p1 = w2c_j1;
-    w2c_i0 = w2c_j0 <= w2c_j1;
-    if (w2c_i0) {goto w2c_B2;}
-    w2c_j0 = w2c_l4;
-    w2c_j1 = 264ull;
-    w2c_j0 += w2c_j1;
-    w2c_i0 = (u32)(w2c_j0);
-    w2c_j0 = i64_load(&instance->w2c_memory, (u64)(w2c_i0));
-    w2c_j1 = w2c_p1;
-    w2c_i0 = w2c_j0 <= w2c_j1;
-    if (w2c_i0) {goto w2c_B2;}
-    w2c_j0 = 18446744073709551613ull;
-    w2c_l5 = w2c_j0;
-    w2c_i0 = w2c_l10;
-    w2c_j1 = w2c_l4;
-    w2c_j2 = 80ull;
-    w2c_j1 += w2c_j2;
-    w2c_i1 = (u32)(w2c_j1);
-    w2c_i1 = i32_load(&instance->w2c_memory, (u64)(w2c_i1));
-    w2c_i0 = w2c_i0 >= w2c_i1;
-    if (w2c_i0) {goto w2c_B2;}
-    w2c_j0 = w2c_l4;
-    w2c_j1 = 57ull;
-    w2c_j0 += w2c_j1;
-    w2c_i0 = (u32)(w2c_j0);
-    w2c_i0 = i32_load8_u(&instance->w2c_memory, (u64)(w2c_i0));
-    if (w2c_i0) {goto w2c_B2;}
-    w2c_j0 = w2c_p2;
-    w2c_i0 = (u32)(w2c_j0);
-    w2c_j0 = i64_load(&instance->w2c_memory, (u64)(w2c_i0));
-    w2c_j1 = w2c_p1;
-    w2c_j2 = 2ull;
-    w2c_j1 <<= (w2c_j2 & 63);
-    w2c_j0 += w2c_j1;
-    w2c_i0 = (u32)(w2c_j0);
-    w2c_i0 = i32_load(&instance->w2c_memory, (u64)(w2c_i0));
-    w2c_l9 = w2c_i0;
-    w2c_j0 = w2c_l4;
-    w2c_j1 = 16ull;
-    w2c_j0 += w2c_j1;
-    w2c_i0 = (u32)(w2c_j0);
-    w2c_j0 = i64_load(&instance->w2c_memory, (u64)(w2c_i0));
-    w2c_p3 = w2c_j0;
-    w2c_j0 = w2c_l4;
-    w2c_j1 = 72ull;
-    w2c_j0 += w2c_j1;
-    w2c_i0 = (u32)(w2c_j0);
-    w2c_j0 = i64_load(&instance->w2c_memory, (u64)(w2c_i0));
-    w2c_p2 = w2c_j0;
-    w2c_j0 = w2c_l4;
-    w2c_j1 = 60ull;
-    w2c_j0 += w2c_j1;
-    w2c_i0 = (u32)(w2c_j0);
-    w2c_i0 = i32_load(&instance->w2c_memory, (u64)(w2c_i0));
-    w2c_j1 = w2c_l4;
-    w2c_j2 = 28ull;
-    w2c_j1 += w2c_j2;
-    w2c_i1 = (u32)(w2c_j1);
-    w2c_i1 = i32_load(&instance->w2c_memory, (u64)(w2c_i1));
-    w2c_i0 = w2c_i0 != w2c_i1;
     if (w2c_i0) {
       w2c_j0 = w2c_l4;
-      w2c_j1 = 65ull;
-      w2c_j0 += w2c_j1;
       w2c_i0 = (u32)(w2c_j0);
-      w2c_i0 = i32_load8_u(&instance->w2c_memory, (u64)(w2c_i0));
-      w2c_i1 = 1u;
-      w2c_i0 = w2c_i0 != w2c_i1;
-      if (w2c_i0) {goto w2c_B2;}
-    }
-    w2c_j0 = w2c_p2;
-    w2c_j1 = w2c_p1;
-    w2c_j2 = 56ull;
-    w2c_j1 *= w2c_j2;
-    w2c_j0 += w2c_j1;
-    w2c_p2 = w2c_j0;
-    w2c_j1 = 48ull;
-    w2c_j0 += w2c_j1;
-    w2c_i0 = (u32)(w2c_j0);
-    w2c_i0 = i32_load8_u(&instance->w2c_memory, (u64)(w2c_i0));
-    if (w2c_i0) {goto w2c_B2;}
-    w2c_j0 = w2c_p2;
-    w2c_j1 = 50ull;
-    w2c_j0 += w2c_j1;
-    w2c_i0 = (u32)(w2c_j0);
-    w2c_i0 = i32_load8_u(&instance->w2c_memory, (u64)(w2c_i0));
-    if (w2c_i0) {goto w2c_B2;}
-    w2c_j0 = w2c_p2;
-    w2c_j1 = 48ull;
-    w2c_j0 += w2c_j1;
-    w2c_i0 = (u32)(w2c_j0);
-    w2c_i1 = 1u;
-    i32_store8(&instance->w2c_memory, (u64)(w2c_i0), w2c_i1);
-    w2c_j0 = w2c_l4;
-    w2c_j1 = 128ull;
-    w2c_j0 += w2c_j1;
-    w2c_l5 = w2c_j0;
-    w2c_i0 = (u32)(w2c_j0);
-    w2c_j1 = w2c_l5;
-    w2c_i1 = (u32)(w2c_j1);
-    w2c_j1 = i64_load(&instance->w2c_memory, (u64)(w2c_i1));
-    w2c_j2 = 1ull;
-    w2c_j3 = w2c_p1;
-    w2c_j2 <<= (w2c_j3 & 63);
-    w2c_j1 |= w2c_j2;
-    i64_store(&instance->w2c_memory, (u64)(w2c_i0), w2c_j1);
-    w2c_j0 = w2c_l7;
-    w2c_j1 = 9ull;
-    w2c_j0 += w2c_j1;
-    w2c_i0 = (u32)(w2c_j0);
-    w2c_i1 = w2c_l9;
-    i32_store(&instance->w2c_memory, (u64)(w2c_i0), w2c_i1);
-    w2c_j0 = w2c_l7;
-    w2c_j1 = 8ull;
-    w2c_j0 += w2c_j1;
-    w2c_i0 = (u32)(w2c_j0);
-    w2c_i1 = 3u;
-    i32_store8(&instance->w2c_memory, (u64)(w2c_i0), w2c_i1);
-    w2c_j0 = w2c_l7;
-    w2c_i0 = (u32)(w2c_j0);
-    w2c_j1 = w2c_p3;
-    i64_store(&instance->w2c_memory, (u64)(w2c_i0), w2c_j1);
-    goto w2c_B4;
-    w2c_B5:;
-    w2c_j0 = w2c_l4;
-    w2c_j1 = 216ull;
-    w2c_j0 += w2c_j1;
-    w2c_i0 = (u32)(w2c_j0);
-    w2c_i0 = i32_load8_u(&instance->w2c_memory, (u64)(w2c_i0));
-    w2c_i1 = 1u;
-    w2c_i0 = w2c_i0 == w2c_i1;
-    if (w2c_i0) {
-      w2c_j0 = 18446744073709551609ull;
+      w2c_j1 = w2c_p1;
+      w2c_i1 = (u32)(w2c_j1);
+      w2c_i1 = i32_load(&instance->w2c_memory, (u64)(w2c_i1) + 8u);
+      i32_store(&instance->w2c_memory, (u64)(w2c_i0) + 8, w2c_i1);
+      w2c_j0 = w2c_l4;
+      w2c_i0 = (u32)(w2c_j0);
+      w2c_j1 = w2c_p1;
+      w2c_i1 = (u32)(w2c_j1);
+      w2c_j1 = i64_load(&instance->w2c_memory, (u64)(w2c_i1));
+      i64_store(&instance->w2c_memory, (u64)(w2c_i0), w2c_j1);
+      w2c_j0 = w2c_l6;
+      w2c_j1 = 8ull;
+      w2c_j0 += w2c_j1;
+      w2c_j1 = w2c_l4;
+      w2c_j2 = w2c_p2;
+      w2c_j3 = 4096ull;
+      w2c_j4 = 0ull;
+      w2c_j5 = w2c_p2;
+      w2c_i5 = !(w2c_j5);
+      w2c_j3 = w2c_i5 ? w2c_j3 : w2c_j4;
+      w2c_j2 += w2c_j3;
+      w2c_j3 = w2c_p3;
+      w2c_j0 = w2c_f74(instance, w2c_j0, w2c_j1, w2c_j2, w2c_j3);
       w2c_l5 = w2c_j0;
-      goto w2c_B2;
     }
-    w2c_j0 = w2c_p3;
-    w2c_j1 = 29ull;
-    w2c_i0 = w2c_j0 < w2c_j1;
-    if (w2c_i0) {
-      w2c_j0 = 18446744073709551610ull;
-      w2c_l5 = w2c_j0;
-      goto w2c_B2;
-    }
-    w2c_i0 = w2c_l9;
-    w2c_j1 = w2c_p2;
-    w2c_i1 = (u32)(w2c_j1);
-    w2c_j1 = i64_load(&instance->w2c_memory, (u64)(w2c_i1));
-    w2c_p1 = w2c_j1;
-    w2c_j2 = 24ull;
-    w2c_j1 += w2c_j2;
-    w2c_i1 = (u32)(w2c_j1);
-    w2c_i1 = i32_load(&instance->w2c_memory, (u64)(w2c_i1));
-    w2c_i0 = w2c_i0 >= w2c_i1;
-    if (w2c_i0) {goto w2c_B2;}
-    w2c_j0 = w2c_p1;
-    w2c_j1 = 88ull;
-    w2c_j0 += w2c_j1;
-    w2c_i0 = (u32)(w2c_j0);
-    w2c_j0 = i64_load(&instance->w2c_memory, (u64)(w2c_i0));
-    w2c_i1 = w2c_l9;
-    w2c_j1 = (u64)(w2c_i1);
-    w2c_j2 = 24ull;
-    w2c_j1 *= w2c_j2;
-    w2c_j0 += w2c_j1;
-    w2c_p2 = w2c_j0;
-    w2c_j1 = 8ull;
-    w2c_j0 += w2c_j1;
-    w2c_i0 = (u32)(w2c_j0);
-    w2c_j0 = i64_load(&instance->w2c_memory, (u64)(w2c_i0));
-    w2c_i1 = w2c_l10;
-    w2c_j1 = (u64)(w2c_i1);
-    w2c_p1 = w2c_j1;
-    w2c_i0 = w2c_j0 <= w2c_j1;
-    if (w2c_i0) {goto w2c_B2;}
-    w2c_j0 = w2c_l4;
-    w2c_j1 = 264ull;
-    w2c_j0 += w2c_j1;
-    w2c_i0 = (u32)(w2c_j0);
-    w2c_j0 = i64_load(&instance->w2c_memory, (u64)(w2c_i0));
-    w2c_j1 = w2c_p1;
-    w2c_i0 = w2c_j0 <= w2c_j1;
-    if (w2c_i0) {goto w2c_B2;}
-    w2c_j0 = 18446744073709551613ull;
-    w2c_l5 = w2c_j0;
-    w2c_i0 = w2c_l10;
-    w2c_j1 = w2c_l4;
-    w2c_j2 = 80ull;
-    w2c_j1 += w2c_j2;
-    w2c_i1 = (u32)(w2c_j1);
-    w2c_i1 = i32_load(&instance->w2c_memory, (u64)(w2c_i1));
-    w2c_i0 = w2c_i0 >= w2c_i1;
-    if (w2c_i0) {goto w2c_B2;}
-    w2c_j0 = w2c_l4;
-    w2c_j1 = 72ull;
-    w2c_j0 += w2c_j1;
-    w2c_i0 = (u32)(w2c_j0);
-    w2c_j0 = i64_load(&instance->w2c_memory, (u64)(w2c_i0));
-    w2c_j1 = w2c_p1;
-    w2c_j2 = 56ull;
-    w2c_j1 *= w2c_j2;
-    w2c_j0 += w2c_j1;
-    w2c_p3 = w2c_j0;
-    w2c_j1 = 48ull;
-    w2c_j0 += w2c_j1;
-    w2c_i0 = (u32)(w2c_j0);
-    w2c_i0 = i32_load8_u(&instance->w2c_memory, (u64)(w2c_i0));
-    w2c_i1 = 1u;
-    w2c_i0 = w2c_i0 != w2c_i1;
-    if (w2c_i0) {goto w2c_B2;}
-    w2c_j0 = w2c_p3;
-    w2c_j1 = 49ull;
-    w2c_j0 += w2c_j1;
-    w2c_i0 = (u32)(w2c_j0);
-    w2c_i0 = i32_load8_u(&instance->w2c_memory, (u64)(w2c_i0));
-    w2c_i1 = 1u;
-    w2c_i0 = w2c_i0 != w2c_i1;
-    if (w2c_i0) {goto w2c_B2;}
-    w2c_j0 = w2c_p3;
-    w2c_j1 = 50ull;
-    w2c_j0 += w2c_j1;
-    w2c_p3 = w2c_j0;
-    w2c_i0 = (u32)(w2c_j0);
-    w2c_i0 = i32_load8_u(&instance->w2c_memory, (u64)(w2c_i0));
-    if (w2c_i0) {goto w2c_B2;}
-    w2c_j0 = w2c_p2;
-    w2c_i0 = (u32)(w2c_j0);
-    w2c_j0 = i64_load(&instance->w2c_memory, (u64)(w2c_i0));
-    w2c_j1 = w2c_p1;
-    w2c_j2 = 2ull;
-    w2c_j1 <<= (w2c_j2 & 63);
-    w2c_j0 += w2c_j1;
-    w2c_i0 = (u32)(w2c_j0);
-    w2c_i0 = i32_load(&instance->w2c_memory, (u64)(w2c_i0));
-    w2c_l9 = w2c_i0;
-    w2c_j0 = w2c_l4;
-    w2c_j1 = 16ull;
-    w2c_j0 += w2c_j1;
-    w2c_i0 = (u32)(w2c_j0);
-    w2c_j0 = i64_load(&instance->w2c_memory, (u64)(w2c_i0));
-    w2c_l5 = w2c_j0;
-    w2c_j0 = w2c_p3;
-    w2c_i0 = (u32)(w2c_j0);
-    w2c_i1 = 1u;
-    i32_store8(&instance->w2c_memory, (u64)(w2c_i0), w2c_i1);
-    w2c_j0 = w2c_l4;
-    w2c_j1 = 120ull;
-    w2c_j0 += w2c_j1;
-    w2c_p2 = w2c_j0;
-    w2c_i0 = (u32)(w2c_j0);
-    w2c_j1 = w2c_p2;
-    w2c_i1 = (u32)(w2c_j1);
-    w2c_j1 = i64_load(&instance->w2c_memory, (u64)(w2c_i1));
-    w2c_j2 = 18446744073709551614ull;
-    w2c_j3 = w2c_p1;
-    w2c_j2 = I64_ROTL(w2c_j2, w2c_j3);
-    w2c_j1 &= w2c_j2;
-    i64_store(&instance->w2c_memory, (u64)(w2c_i0), w2c_j1);
-    w2c_j0 = w2c_l7;
-    w2c_j1 = 9ull;
-    w2c_j0 += w2c_j1;
-    w2c_i0 = (u32)(w2c_j0);
-    w2c_i1 = w2c_l9;
-    i32_store(&instance->w2c_memory, (u64)(w2c_i0), w2c_i1);
-    w2c_j0 = w2c_l7;
-    w2c_j1 = 8ull;
-    w2c_j0 += w2c_j1;
-    w2c_i0 = (u32)(w2c_j0);
-    w2c_i1 = 4u;
-    i32_store8(&instance->w2c_memory, (u64)(w2c_i0), w2c_i1);
-    w2c_j0 = w2c_l7;
-    w2c_i0 = (u32)(w2c_j0);
-    w2c_j1 = w2c_l5;
-    i64_store(&instance->w2c_memory, (u64)(w2c_i0), w2c_j1);
-    w2c_B4:;
-    w2c_j0 = 13ull;
-    w2c_l5 = w2c_j0;
-    w2c_B2:;
     w2c_j0 = w2c_p0;
     w2c_i0 = (u32)(w2c_j0);
     w2c_j1 = 1701734756ull;
     i64_store(&instance->w2c_memory, (u64)(w2c_i0) + 8, w2c_j1);
     w2c_j0 = w2c_p0;
     w2c_i0 = (u32)(w2c_j0);
-    w2c_j1 = w2c_l4;
+    w2c_j1 = w2c_l6;
     i64_store(&instance->w2c_memory, (u64)(w2c_i0), w2c_j1);
   }
-  w2c_j0 = w2c_l6;
-  w2c_j1 = 32ull;
+  w2c_j0 = w2c_l4;
+  w2c_j1 = 16ull;
   w2c_j0 += w2c_j1;
   instance->w2c_g0 = w2c_j0;
   w2c_j0 = w2c_l5;
-  goto w2c_Bfunc;
-  w2c_B0:;
-  UNREACHABLE;
-  w2c_Bfunc:;
   FUNC_EPILOGUE;
   return w2c_j0;
 }
@@ -83137,7 +83552,7 @@ static u64 w2c_dine_raw_site_ask(Z_dine_ffi_instance_t* instance, u64 w2c_p0, u3
       w2c_j4 = w2c_i6 ? w2c_j4 : w2c_j5;
       w2c_j3 += w2c_j4;
       w2c_j4 = w2c_p3;
-      w2c_j0 = w2c_f75(instance, w2c_j0, w2c_i1, w2c_i2, w2c_j3, w2c_j4);
+      w2c_j0 = w2c_f76(instance, w2c_j0, w2c_i1, w2c_i2, w2c_j3, w2c_j4);
       w2c_l4 = w2c_j0;
     }
     w2c_j0 = w2c_p0;
@@ -83259,7 +83674,7 @@ static u64 w2c_dine_raw_site_begin(Z_dine_ffi_instance_t* instance, u64 w2c_p0) 
     w2c_j1 = w2c_l1;
     w2c_j2 = 24ull;
     w2c_j1 += w2c_j2;
-    w2c_f74(instance, w2c_j0, w2c_j1);
+    w2c_f75(instance, w2c_j0, w2c_j1);
     w2c_j0 = w2c_l1;
     w2c_j1 = 216ull;
     w2c_j0 += w2c_j1;
@@ -83971,7 +84386,7 @@ static u64 w2c_dine_raw_site_give(Z_dine_ffi_instance_t* instance, u64 w2c_p0, u
       w2c_j4 = w2c_i6 ? w2c_j4 : w2c_j5;
       w2c_j3 += w2c_j4;
       w2c_j4 = w2c_p3;
-      w2c_j0 = w2c_f75(instance, w2c_j0, w2c_i1, w2c_i2, w2c_j3, w2c_j4);
+      w2c_j0 = w2c_f76(instance, w2c_j0, w2c_i1, w2c_i2, w2c_j3, w2c_j4);
       w2c_l4 = w2c_j0;
     }
     w2c_j0 = w2c_p0;
@@ -84140,7 +84555,7 @@ static u64 w2c_dine_raw_site_next(Z_dine_ffi_instance_t* instance, u64 w2c_p0, u
     w2c_j2 = 24ull;
     w2c_j1 += w2c_j2;
     w2c_l6 = w2c_j1;
-    w2c_f76(instance, w2c_j0, w2c_j1);
+    w2c_f77(instance, w2c_j0, w2c_j1);
     w2c_j0 = 0ull;
     w2c_j1 = w2c_l5;
     w2c_i1 = (u32)(w2c_j1);
@@ -84254,7 +84669,7 @@ static u64 w2c_dine_raw_site_open_in(Z_dine_ffi_instance_t* instance, u64 w2c_p0
   w2c_i1 = w2c_p1;
   w2c_j2 = w2c_p2;
   w2c_j3 = w2c_p3;
-  w2c_j0 = w2c_f77(instance, w2c_j0, w2c_i1, w2c_j2, w2c_j3);
+  w2c_j0 = w2c_f78(instance, w2c_j0, w2c_i1, w2c_j2, w2c_j3);
   FUNC_EPILOGUE;
   return w2c_j0;
 }
@@ -84267,7 +84682,7 @@ static u64 w2c_dine_raw_site_open(Z_dine_ffi_instance_t* instance, u64 w2c_p0, u
   w2c_i1 = w2c_p1;
   w2c_j2 = 0ull;
   w2c_j3 = w2c_p2;
-  w2c_j0 = w2c_f77(instance, w2c_j0, w2c_i1, w2c_j2, w2c_j3);
+  w2c_j0 = w2c_f78(instance, w2c_j0, w2c_i1, w2c_j2, w2c_j3);
   FUNC_EPILOGUE;
   return w2c_j0;
 }
@@ -84439,6 +84854,14 @@ static u64 w2c_dine_raw_site_place(Z_dine_ffi_instance_t* instance, u64 w2c_p0, 
     w2c_i0 = 0u;
     w2c_l7 = w2c_i0;
     w2c_B3:;
+    w2c_j0 = w2c_p2;
+    w2c_i0 = (u32)(w2c_j0);
+    w2c_j1 = w2c_l3;
+    w2c_j2 = 51ull;
+    w2c_j1 += w2c_j2;
+    w2c_i1 = (u32)(w2c_j1);
+    w2c_i1 = i32_load8_u(&instance->w2c_memory, (u64)(w2c_i1));
+    i32_store(&instance->w2c_memory, (u64)(w2c_i0) + 20, w2c_i1);
     w2c_j0 = w2c_p2;
     w2c_i0 = (u32)(w2c_j0);
     w2c_i1 = w2c_l7;
@@ -85177,7 +85600,7 @@ static u64 w2c_dine_raw_world_count(Z_dine_ffi_instance_t* instance, u64 w2c_p0)
       if (w2c_i0) {
         w2c_j0 = w2c_l4;
         w2c_i1 = w2c_l8;
-        w2c_i0 = w2c_f82(instance, w2c_j0, w2c_i1);
+        w2c_i0 = w2c_f83(instance, w2c_j0, w2c_i1);
         goto w2c_B3;
       }
       w2c_j0 = w2c_l7;
@@ -85279,7 +85702,7 @@ static u64 w2c_dine_raw_world_enabled(Z_dine_ffi_instance_t* instance, u64 w2c_p
     w2c_j2 = 8ull;
     w2c_j1 += w2c_j2;
     w2c_i2 = w2c_p1;
-    w2c_f83(instance, w2c_j0, w2c_j1, w2c_i2);
+    w2c_f84(instance, w2c_j0, w2c_j1, w2c_i2);
     w2c_j0 = 18446744073709551612ull;
     w2c_j1 = w2c_l5;
     w2c_i1 = (u32)(w2c_j1);
@@ -85510,7 +85933,7 @@ static u64 w2c_dine_raw_world_finish(Z_dine_ffi_instance_t* instance, u64 w2c_p0
           w2c_j3 = 8ull;
           w2c_j2 <<= (w2c_j3 & 63);
           w2c_j1 += w2c_j2;
-          w2c_f76(instance, w2c_j0, w2c_j1);
+          w2c_f77(instance, w2c_j0, w2c_j1);
           w2c_j0 = w2c_l3;
           w2c_i0 = (u32)(w2c_j0);
           w2c_i0 = i32_load8_u(&instance->w2c_memory, (u64)(w2c_i0) + 20u);
@@ -85561,7 +85984,7 @@ static u64 w2c_dine_raw_world_finish(Z_dine_ffi_instance_t* instance, u64 w2c_p0
         w2c_j1 = w2c_l3;
         w2c_j2 = 8ull;
         w2c_j1 += w2c_j2;
-        w2c_f84(instance, w2c_j0, w2c_j1);
+        w2c_f85(instance, w2c_j0, w2c_j1);
         w2c_j0 = w2c_l4;
         w2c_j1 = 1ull;
         w2c_j0 -= w2c_j1;
@@ -85608,12 +86031,12 @@ static u64 w2c_dine_raw_world_finish(Z_dine_ffi_instance_t* instance, u64 w2c_p0
 }
 
 static u64 w2c_dine_raw_world_open(Z_dine_ffi_instance_t* instance, u64 w2c_p0, u64 w2c_p1) {
-  u32 w2c_l36 = 0, w2c_l37 = 0, w2c_l38 = 0, w2c_l39 = 0, w2c_l40 = 0;
+  u32 w2c_l38 = 0, w2c_l39 = 0, w2c_l40 = 0, w2c_l41 = 0, w2c_l42 = 0;
   u64 w2c_l2 = 0, w2c_l3 = 0, w2c_l4 = 0, w2c_l5 = 0, w2c_l6 = 0, w2c_l7 = 0, w2c_l8 = 0, w2c_l9 = 0, 
       w2c_l10 = 0, w2c_l11 = 0, w2c_l12 = 0, w2c_l13 = 0, w2c_l14 = 0, w2c_l15 = 0, w2c_l16 = 0, w2c_l17 = 0, 
       w2c_l18 = 0, w2c_l19 = 0, w2c_l20 = 0, w2c_l21 = 0, w2c_l22 = 0, w2c_l23 = 0, w2c_l24 = 0, w2c_l25 = 0, 
       w2c_l26 = 0, w2c_l27 = 0, w2c_l28 = 0, w2c_l29 = 0, w2c_l30 = 0, w2c_l31 = 0, w2c_l32 = 0, w2c_l33 = 0, 
-      w2c_l34 = 0, w2c_l35 = 0;
+      w2c_l34 = 0, w2c_l35 = 0, w2c_l36 = 0, w2c_l37 = 0;
   FUNC_PROLOGUE;
   u32 w2c_i0, w2c_i1, w2c_i2, w2c_i3, w2c_i4, w2c_i5;
   u64 w2c_j0, w2c_j1, w2c_j2, w2c_j3, w2c_j4, w2c_j5, w2c_j6;
@@ -85645,12 +86068,12 @@ static u64 w2c_dine_raw_world_open(Z_dine_ffi_instance_t* instance, u64 w2c_p0, 
   w2c_j0 = w2c_p0;
   w2c_i0 = (u32)(w2c_j0);
   w2c_i0 = i32_load(&instance->w2c_memory, (u64)(w2c_i0) + 8u);
-  w2c_l39 = w2c_i0;
+  w2c_l42 = w2c_i0;
   w2c_j0 = w2c_p0;
   w2c_i0 = (u32)(w2c_j0);
   w2c_j1 = 0ull;
   i64_store(&instance->w2c_memory, (u64)(w2c_i0) + 8, w2c_j1);
-  w2c_i0 = w2c_l39;
+  w2c_i0 = w2c_l42;
   w2c_i1 = 1701734756u;
   w2c_i0 = w2c_i0 != w2c_i1;
   if (w2c_i0) {
@@ -85811,7 +86234,7 @@ static u64 w2c_dine_raw_world_open(Z_dine_ffi_instance_t* instance, u64 w2c_p0, 
   w2c_j0 = w2c_l2;
   w2c_j1 = 1240ull;
   w2c_j0 += w2c_j1;
-  w2c_l13 = w2c_j0;
+  w2c_l9 = w2c_j0;
   w2c_j0 = w2c_l8;
   w2c_j1 = 48ull;
   w2c_j0 += w2c_j1;
@@ -85820,21 +86243,21 @@ static u64 w2c_dine_raw_world_open(Z_dine_ffi_instance_t* instance, u64 w2c_p0, 
   w2c_l3 = w2c_j0;
   w2c_j1 = 4294967295ull;
   w2c_j0 &= w2c_j1;
-  w2c_l28 = w2c_j0;
+  w2c_l29 = w2c_j0;
   w2c_i0 = !(w2c_j0);
-  w2c_l37 = w2c_i0;
+  w2c_l39 = w2c_i0;
   if (w2c_i0) {
-    w2c_j0 = w2c_l13;
+    w2c_j0 = w2c_l9;
     w2c_l23 = w2c_j0;
     goto w2c_B6;
   }
   w2c_j0 = w2c_l2;
   w2c_j1 = 128ull;
   w2c_j0 += w2c_j1;
-  w2c_j1 = w2c_l28;
+  w2c_j1 = w2c_l29;
   w2c_j2 = 4ull;
   w2c_j1 <<= (w2c_j2 & 63);
-  w2c_f136(instance, w2c_j0, w2c_j1);
+  w2c_f140(instance, w2c_j0, w2c_j1);
   w2c_j0 = w2c_l2;
   w2c_i0 = (u32)(w2c_j0);
   w2c_j0 = i64_load(&instance->w2c_memory, (u64)(w2c_i0) + 128u);
@@ -85855,25 +86278,25 @@ static u64 w2c_dine_raw_world_open(Z_dine_ffi_instance_t* instance, u64 w2c_p0, 
   w2c_l3 = w2c_j0;
   w2c_j1 = 4294967295ull;
   w2c_j0 &= w2c_j1;
-  w2c_l9 = w2c_j0;
+  w2c_l10 = w2c_j0;
   w2c_i0 = !(w2c_j0);
   if (w2c_i0) {goto w2c_B6;}
-  w2c_j0 = w2c_l9;
+  w2c_j0 = w2c_l10;
   w2c_j1 = 3ull;
   w2c_j0 <<= (w2c_j1 & 63);
-  w2c_l10 = w2c_j0;
+  w2c_l5 = w2c_j0;
   w2c_j0 = w2c_l8;
   w2c_j1 = 40ull;
   w2c_j0 += w2c_j1;
-  w2c_l5 = w2c_j0;
+  w2c_l18 = w2c_j0;
   w2c_j0 = w2c_l8;
   w2c_j1 = 112ull;
   w2c_j0 += w2c_j1;
-  w2c_l19 = w2c_j0;
+  w2c_l24 = w2c_j0;
   w2c_j0 = w2c_l23;
   w2c_l3 = w2c_j0;
   w2c_L8: 
-    w2c_j0 = w2c_l19;
+    w2c_j0 = w2c_l24;
     w2c_i0 = (u32)(w2c_j0);
     w2c_j0 = i64_load(&instance->w2c_memory, (u64)(w2c_i0));
     w2c_j1 = w2c_l4;
@@ -85881,7 +86304,7 @@ static u64 w2c_dine_raw_world_open(Z_dine_ffi_instance_t* instance, u64 w2c_p0, 
     w2c_l6 = w2c_j0;
     w2c_i0 = (u32)(w2c_j0);
     w2c_i0 = i32_load(&instance->w2c_memory, (u64)(w2c_i0));
-    w2c_l36 = w2c_i0;
+    w2c_l38 = w2c_i0;
     w2c_j0 = w2c_l3;
     w2c_j1 = 12ull;
     w2c_j0 += w2c_j1;
@@ -85889,7 +86312,7 @@ static u64 w2c_dine_raw_world_open(Z_dine_ffi_instance_t* instance, u64 w2c_p0, 
     w2c_j1 = w2c_l6;
     w2c_j2 = 0ull;
     w2c_j3 = 4ull;
-    w2c_j4 = w2c_l5;
+    w2c_j4 = w2c_l18;
     w2c_i4 = (u32)(w2c_j4);
     w2c_j4 = i64_load(&instance->w2c_memory, (u64)(w2c_i4));
     w2c_j5 = w2c_l4;
@@ -85897,13 +86320,13 @@ static u64 w2c_dine_raw_world_open(Z_dine_ffi_instance_t* instance, u64 w2c_p0, 
     w2c_l7 = w2c_j4;
     w2c_i4 = (u32)(w2c_j4);
     w2c_i4 = i32_load(&instance->w2c_memory, (u64)(w2c_i4));
-    w2c_l38 = w2c_i4;
+    w2c_l40 = w2c_i4;
     w2c_j5 = w2c_l7;
     w2c_j6 = 4ull;
     w2c_j5 += w2c_j6;
     w2c_i5 = (u32)(w2c_j5);
     w2c_i5 = i32_load(&instance->w2c_memory, (u64)(w2c_i5));
-    w2c_l40 = w2c_i5;
+    w2c_l41 = w2c_i5;
     w2c_i4 = w2c_i4 == w2c_i5;
     w2c_j2 = w2c_i4 ? w2c_j2 : w2c_j3;
     w2c_j1 += w2c_j2;
@@ -85914,23 +86337,23 @@ static u64 w2c_dine_raw_world_open(Z_dine_ffi_instance_t* instance, u64 w2c_p0, 
     w2c_j1 = 8ull;
     w2c_j0 += w2c_j1;
     w2c_i0 = (u32)(w2c_j0);
-    w2c_i1 = w2c_l40;
+    w2c_i1 = w2c_l41;
     i32_store(&instance->w2c_memory, (u64)(w2c_i0), w2c_i1);
     w2c_j0 = w2c_l3;
     w2c_j1 = 4ull;
     w2c_j0 += w2c_j1;
     w2c_i0 = (u32)(w2c_j0);
-    w2c_i1 = w2c_l36;
+    w2c_i1 = w2c_l38;
     i32_store(&instance->w2c_memory, (u64)(w2c_i0), w2c_i1);
     w2c_j0 = w2c_l3;
     w2c_i0 = (u32)(w2c_j0);
-    w2c_i1 = w2c_l38;
+    w2c_i1 = w2c_l40;
     i32_store(&instance->w2c_memory, (u64)(w2c_i0), w2c_i1);
     w2c_j0 = w2c_l3;
     w2c_j1 = 16ull;
     w2c_j0 += w2c_j1;
     w2c_l3 = w2c_j0;
-    w2c_j0 = w2c_l10;
+    w2c_j0 = w2c_l5;
     w2c_j1 = w2c_l4;
     w2c_j2 = 8ull;
     w2c_j1 += w2c_j2;
@@ -85943,8 +86366,8 @@ static u64 w2c_dine_raw_world_open(Z_dine_ffi_instance_t* instance, u64 w2c_p0, 
   w2c_i0 = (u32)(w2c_j0);
   w2c_j0 = i64_load(&instance->w2c_memory, (u64)(w2c_i0));
   w2c_l3 = w2c_j0;
-  w2c_j0 = w2c_l9;
-  w2c_l19 = w2c_j0;
+  w2c_j0 = w2c_l10;
+  w2c_l18 = w2c_j0;
   w2c_B6:;
   w2c_j0 = w2c_l3;
   w2c_j1 = 1ull;
@@ -85961,7 +86384,7 @@ static u64 w2c_dine_raw_world_open(Z_dine_ffi_instance_t* instance, u64 w2c_p0, 
     w2c_j1 = w2c_l7;
     w2c_j2 = 40ull;
     w2c_j1 *= w2c_j2;
-    w2c_f136(instance, w2c_j0, w2c_j1);
+    w2c_f140(instance, w2c_j0, w2c_j1);
     w2c_j0 = w2c_l2;
     w2c_i0 = (u32)(w2c_j0);
     w2c_j0 = i64_load(&instance->w2c_memory, (u64)(w2c_i0) + 112u);
@@ -85973,7 +86396,7 @@ static u64 w2c_dine_raw_world_open(Z_dine_ffi_instance_t* instance, u64 w2c_p0, 
     w2c_j0 = w2c_l2;
     w2c_i0 = (u32)(w2c_j0);
     w2c_j0 = i64_load(&instance->w2c_memory, (u64)(w2c_i0) + 120u);
-    w2c_l13 = w2c_j0;
+    w2c_l9 = w2c_j0;
     w2c_l3 = w2c_j0;
     w2c_j0 = 0ull;
     w2c_l4 = w2c_j0;
@@ -85982,7 +86405,7 @@ static u64 w2c_dine_raw_world_open(Z_dine_ffi_instance_t* instance, u64 w2c_p0, 
       w2c_j1 = 96ull;
       w2c_j0 += w2c_j1;
       w2c_j1 = 64ull;
-      w2c_f136(instance, w2c_j0, w2c_j1);
+      w2c_f140(instance, w2c_j0, w2c_j1);
       w2c_j0 = w2c_l2;
       w2c_i0 = (u32)(w2c_j0);
       w2c_j0 = i64_load(&instance->w2c_memory, (u64)(w2c_i0) + 96u);
@@ -86051,14 +86474,14 @@ static u64 w2c_dine_raw_world_open(Z_dine_ffi_instance_t* instance, u64 w2c_p0, 
   i64_store(&instance->w2c_memory, (u64)(w2c_i0) + 696, w2c_j1);
   w2c_j0 = w2c_l2;
   w2c_i0 = (u32)(w2c_j0);
-  w2c_j1 = w2c_l13;
+  w2c_j1 = w2c_l9;
   i64_store(&instance->w2c_memory, (u64)(w2c_i0) + 688, w2c_j1);
   w2c_j0 = w2c_l3;
   w2c_j1 = 4294967295ull;
   w2c_j0 &= w2c_j1;
   w2c_l3 = w2c_j0;
   w2c_i0 = !(w2c_j0);
-  w2c_l36 = w2c_i0;
+  w2c_l38 = w2c_i0;
   if (w2c_i0) {
     w2c_j0 = w2c_l2;
     w2c_j1 = 1240ull;
@@ -86070,7 +86493,7 @@ static u64 w2c_dine_raw_world_open(Z_dine_ffi_instance_t* instance, u64 w2c_p0, 
     w2c_j1 = w2c_l3;
     w2c_j2 = 3ull;
     w2c_j1 <<= (w2c_j2 & 63);
-    w2c_f136(instance, w2c_j0, w2c_j1);
+    w2c_f140(instance, w2c_j0, w2c_j1);
     w2c_j0 = w2c_l2;
     w2c_i0 = (u32)(w2c_j0);
     w2c_j0 = i64_load(&instance->w2c_memory, (u64)(w2c_i0) + 80u);
@@ -86099,7 +86522,7 @@ static u64 w2c_dine_raw_world_open(Z_dine_ffi_instance_t* instance, u64 w2c_p0, 
   w2c_j0 = i64_load32_u(&instance->w2c_memory, (u64)(w2c_i0));
   w2c_l5 = w2c_j0;
   w2c_j0 = 0ull;
-  w2c_l13 = w2c_j0;
+  w2c_l24 = w2c_j0;
   w2c_j0 = w2c_l2;
   w2c_i0 = (u32)(w2c_j0);
   w2c_j1 = 0ull;
@@ -86125,7 +86548,7 @@ static u64 w2c_dine_raw_world_open(Z_dine_ffi_instance_t* instance, u64 w2c_p0, 
   w2c_j0 = w2c_l2;
   w2c_j1 = 1240ull;
   w2c_j0 += w2c_j1;
-  w2c_l14 = w2c_j0;
+  w2c_l12 = w2c_j0;
   w2c_j0 = 0ull;
   w2c_l9 = w2c_j0;
   goto w2c_B16;
@@ -86140,14 +86563,14 @@ static u64 w2c_dine_raw_world_open(Z_dine_ffi_instance_t* instance, u64 w2c_p0, 
   i64_store(&instance->w2c_memory, (u64)(w2c_i0) + 968, w2c_j1);
   w2c_j0 = w2c_l2;
   w2c_i0 = (u32)(w2c_j0);
-  w2c_j1 = w2c_l13;
+  w2c_j1 = w2c_l9;
   i64_store(&instance->w2c_memory, (u64)(w2c_i0) + 960, w2c_j1);
   w2c_j0 = w2c_l2;
   w2c_j1 = 960ull;
   w2c_j0 += w2c_j1;
   w2c_f6(instance, w2c_j0);
   w2c_B19:;
-  w2c_i0 = w2c_l37;
+  w2c_i0 = w2c_l39;
   if (w2c_i0) {goto w2c_B5;}
   goto w2c_B4;
   w2c_B18:;
@@ -86155,7 +86578,7 @@ static u64 w2c_dine_raw_world_open(Z_dine_ffi_instance_t* instance, u64 w2c_p0, 
   w2c_j1 = 688ull;
   w2c_j0 += w2c_j1;
   w2c_f6(instance, w2c_j0);
-  w2c_i0 = w2c_l37;
+  w2c_i0 = w2c_l39;
   w2c_i0 = !(w2c_i0);
   if (w2c_i0) {goto w2c_B4;}
   goto w2c_B5;
@@ -86166,7 +86589,7 @@ static u64 w2c_dine_raw_world_open(Z_dine_ffi_instance_t* instance, u64 w2c_p0, 
   w2c_j1 = w2c_l5;
   w2c_j2 = 192ull;
   w2c_j1 *= w2c_j2;
-  w2c_f136(instance, w2c_j0, w2c_j1);
+  w2c_f140(instance, w2c_j0, w2c_j1);
   w2c_j0 = w2c_l2;
   w2c_i0 = (u32)(w2c_j0);
   w2c_j0 = i64_load(&instance->w2c_memory, (u64)(w2c_i0) + 64u);
@@ -86175,7 +86598,7 @@ static u64 w2c_dine_raw_world_open(Z_dine_ffi_instance_t* instance, u64 w2c_p0, 
   w2c_i0 &= w2c_i1;
   w2c_i0 = !(w2c_i0);
   if (w2c_i0) {
-    w2c_i0 = w2c_l36;
+    w2c_i0 = w2c_l38;
     w2c_i0 = !(w2c_i0);
     if (w2c_i0) {
       w2c_j0 = w2c_l4;
@@ -86185,7 +86608,7 @@ static u64 w2c_dine_raw_world_open(Z_dine_ffi_instance_t* instance, u64 w2c_p0, 
     w2c_j1 = 688ull;
     w2c_j0 += w2c_j1;
     w2c_f6(instance, w2c_j0);
-    w2c_i0 = w2c_l37;
+    w2c_i0 = w2c_l39;
     w2c_i0 = !(w2c_i0);
     if (w2c_i0) {goto w2c_B4;}
     goto w2c_B5;
@@ -86217,7 +86640,7 @@ static u64 w2c_dine_raw_world_open(Z_dine_ffi_instance_t* instance, u64 w2c_p0, 
     w2c_j0 = w2c_l2;
     w2c_j1 = 1240ull;
     w2c_j0 += w2c_j1;
-    w2c_l14 = w2c_j0;
+    w2c_l12 = w2c_j0;
     w2c_j0 = w2c_l9;
     w2c_l5 = w2c_j0;
     w2c_j0 = 0ull;
@@ -86231,7 +86654,7 @@ static u64 w2c_dine_raw_world_open(Z_dine_ffi_instance_t* instance, u64 w2c_p0, 
   w2c_j2 = 3ull;
   w2c_j1 <<= (w2c_j2 & 63);
   w2c_l6 = w2c_j1;
-  w2c_f136(instance, w2c_j0, w2c_j1);
+  w2c_f140(instance, w2c_j0, w2c_j1);
   w2c_j0 = w2c_l2;
   w2c_i0 = (u32)(w2c_j0);
   w2c_j0 = i64_load(&instance->w2c_memory, (u64)(w2c_i0) + 48u);
@@ -86243,7 +86666,7 @@ static u64 w2c_dine_raw_world_open(Z_dine_ffi_instance_t* instance, u64 w2c_p0, 
   w2c_j0 = w2c_l2;
   w2c_i0 = (u32)(w2c_j0);
   w2c_j0 = i64_load(&instance->w2c_memory, (u64)(w2c_i0) + 56u);
-  w2c_l14 = w2c_j0;
+  w2c_l12 = w2c_j0;
   w2c_j0 = 0ull;
   w2c_l3 = w2c_j0;
   w2c_j0 = w2c_l9;
@@ -86257,7 +86680,7 @@ static u64 w2c_dine_raw_world_open(Z_dine_ffi_instance_t* instance, u64 w2c_p0, 
     w2c_i0 = !(w2c_j0);
     w2c_i0 = !(w2c_i0);
     if (w2c_i0) {
-      w2c_j0 = w2c_l14;
+      w2c_j0 = w2c_l12;
       w2c_i0 = (u32)(w2c_j0);
       w2c_i1 = 0u;
       w2c_j2 = w2c_l3;
@@ -86269,7 +86692,7 @@ static u64 w2c_dine_raw_world_open(Z_dine_ffi_instance_t* instance, u64 w2c_p0, 
     w2c_j0 -= w2c_j1;
     w2c_l3 = w2c_j0;
   }
-  w2c_j0 = w2c_l14;
+  w2c_j0 = w2c_l12;
   w2c_j1 = w2c_l3;
   w2c_j2 = 3ull;
   w2c_j1 <<= (w2c_j2 & 63);
@@ -86280,36 +86703,36 @@ static u64 w2c_dine_raw_world_open(Z_dine_ffi_instance_t* instance, u64 w2c_p0, 
   w2c_j0 = w2c_l3;
   w2c_j1 = 1ull;
   w2c_j0 += w2c_j1;
-  w2c_l13 = w2c_j0;
+  w2c_l24 = w2c_j0;
   w2c_j0 = w2c_l8;
   w2c_j1 = 24ull;
   w2c_j0 += w2c_j1;
   w2c_i0 = (u32)(w2c_j0);
   w2c_j0 = i64_load32_u(&instance->w2c_memory, (u64)(w2c_i0));
-  w2c_l16 = w2c_j0;
+  w2c_l15 = w2c_j0;
   w2c_i0 = !(w2c_j0);
   w2c_i0 = !(w2c_i0);
   if (w2c_i0) {goto w2c_B15;}
-  w2c_j0 = w2c_l16;
+  w2c_j0 = w2c_l15;
   w2c_l5 = w2c_j0;
   w2c_B16:;
   w2c_j0 = 0ull;
-  w2c_l16 = w2c_j0;
+  w2c_l15 = w2c_j0;
   w2c_j0 = w2c_l2;
   w2c_j1 = 1240ull;
   w2c_j0 += w2c_j1;
-  w2c_l17 = w2c_j0;
-  w2c_l20 = w2c_j0;
+  w2c_l16 = w2c_j0;
+  w2c_l19 = w2c_j0;
   goto w2c_B12;
   w2c_B15:;
   w2c_j0 = w2c_l2;
   w2c_j1 = 32ull;
   w2c_j0 += w2c_j1;
-  w2c_j1 = w2c_l16;
+  w2c_j1 = w2c_l15;
   w2c_j2 = 2ull;
   w2c_j1 <<= (w2c_j2 & 63);
   w2c_l6 = w2c_j1;
-  w2c_f136(instance, w2c_j0, w2c_j1);
+  w2c_f140(instance, w2c_j0, w2c_j1);
   w2c_j0 = w2c_l2;
   w2c_i0 = (u32)(w2c_j0);
   w2c_j0 = i64_load(&instance->w2c_memory, (u64)(w2c_i0) + 32u);
@@ -86321,10 +86744,10 @@ static u64 w2c_dine_raw_world_open(Z_dine_ffi_instance_t* instance, u64 w2c_p0, 
   w2c_j0 = w2c_l2;
   w2c_i0 = (u32)(w2c_j0);
   w2c_j0 = i64_load(&instance->w2c_memory, (u64)(w2c_i0) + 40u);
-  w2c_l20 = w2c_j0;
+  w2c_l19 = w2c_j0;
   w2c_j0 = 0ull;
   w2c_l3 = w2c_j0;
-  w2c_j0 = w2c_l16;
+  w2c_j0 = w2c_l15;
   w2c_j1 = 1ull;
   w2c_i0 = w2c_j0 != w2c_j1;
   if (w2c_i0) {
@@ -86335,19 +86758,19 @@ static u64 w2c_dine_raw_world_open(Z_dine_ffi_instance_t* instance, u64 w2c_p0, 
     w2c_i0 = !(w2c_j0);
     w2c_i0 = !(w2c_i0);
     if (w2c_i0) {
-      w2c_j0 = w2c_l20;
+      w2c_j0 = w2c_l19;
       w2c_i0 = (u32)(w2c_j0);
       w2c_i1 = 0u;
       w2c_j2 = w2c_l3;
       w2c_i2 = (u32)(w2c_j2);
       memory_fill(&instance->w2c_memory, w2c_i0, w2c_i1, w2c_i2);
     }
-    w2c_j0 = w2c_l16;
+    w2c_j0 = w2c_l15;
     w2c_j1 = 1ull;
     w2c_j0 -= w2c_j1;
     w2c_l3 = w2c_j0;
   }
-  w2c_j0 = w2c_l20;
+  w2c_j0 = w2c_l19;
   w2c_j1 = w2c_l3;
   w2c_j2 = 2ull;
   w2c_j1 <<= (w2c_j2 & 63);
@@ -86360,7 +86783,7 @@ static u64 w2c_dine_raw_world_open(Z_dine_ffi_instance_t* instance, u64 w2c_p0, 
   w2c_j0 += w2c_j1;
   w2c_i0 = (u32)(w2c_j0);
   w2c_j0 = i64_load32_u(&instance->w2c_memory, (u64)(w2c_i0));
-  w2c_l21 = w2c_j0;
+  w2c_l20 = w2c_j0;
   w2c_j0 = w2c_l2;
   w2c_j1 = 713ull;
   w2c_j0 += w2c_j1;
@@ -86371,26 +86794,26 @@ static u64 w2c_dine_raw_world_open(Z_dine_ffi_instance_t* instance, u64 w2c_p0, 
   w2c_j0 = w2c_l3;
   w2c_j1 = 1ull;
   w2c_j0 += w2c_j1;
-  w2c_l32 = w2c_j0;
-  w2c_j0 = w2c_l21;
+  w2c_l33 = w2c_j0;
+  w2c_j0 = w2c_l20;
   w2c_i0 = !(w2c_j0);
   w2c_i0 = !(w2c_i0);
   if (w2c_i0) {goto w2c_B13;}
   w2c_j0 = w2c_l2;
   w2c_j1 = 1240ull;
   w2c_j0 += w2c_j1;
-  w2c_l17 = w2c_j0;
-  w2c_j0 = w2c_l21;
+  w2c_l16 = w2c_j0;
+  w2c_j0 = w2c_l20;
   w2c_l5 = w2c_j0;
   w2c_j0 = 0ull;
-  w2c_l21 = w2c_j0;
+  w2c_l20 = w2c_j0;
   goto w2c_B12;
   w2c_B14:;
   w2c_j0 = w2c_l2;
   w2c_j1 = 640ull;
   w2c_j0 += w2c_j1;
   w2c_f5(instance, w2c_j0);
-  w2c_i0 = w2c_l36;
+  w2c_i0 = w2c_l38;
   w2c_i0 = !(w2c_i0);
   if (w2c_i0) {
     w2c_j0 = w2c_l4;
@@ -86400,7 +86823,7 @@ static u64 w2c_dine_raw_world_open(Z_dine_ffi_instance_t* instance, u64 w2c_p0, 
   w2c_j1 = 688ull;
   w2c_j0 += w2c_j1;
   w2c_f6(instance, w2c_j0);
-  w2c_i0 = w2c_l37;
+  w2c_i0 = w2c_l39;
   w2c_i0 = !(w2c_i0);
   if (w2c_i0) {goto w2c_B4;}
   goto w2c_B5;
@@ -86408,10 +86831,10 @@ static u64 w2c_dine_raw_world_open(Z_dine_ffi_instance_t* instance, u64 w2c_p0, 
   w2c_j0 = w2c_l2;
   w2c_j1 = 16ull;
   w2c_j0 += w2c_j1;
-  w2c_j1 = w2c_l21;
+  w2c_j1 = w2c_l20;
   w2c_j2 = 8ull;
   w2c_j1 <<= (w2c_j2 & 63);
-  w2c_f136(instance, w2c_j0, w2c_j1);
+  w2c_f140(instance, w2c_j0, w2c_j1);
   w2c_j0 = w2c_l2;
   w2c_i0 = (u32)(w2c_j0);
   w2c_j0 = i64_load(&instance->w2c_memory, (u64)(w2c_i0) + 16u);
@@ -86423,16 +86846,16 @@ static u64 w2c_dine_raw_world_open(Z_dine_ffi_instance_t* instance, u64 w2c_p0, 
   w2c_j0 = w2c_l2;
   w2c_i0 = (u32)(w2c_j0);
   w2c_j0 = i64_load(&instance->w2c_memory, (u64)(w2c_i0) + 24u);
-  w2c_l17 = w2c_j0;
+  w2c_l16 = w2c_j0;
   w2c_j0 = w2c_l8;
   w2c_j1 = 24ull;
   w2c_j0 += w2c_j1;
   w2c_i0 = (u32)(w2c_j0);
   w2c_j0 = i64_load32_u(&instance->w2c_memory, (u64)(w2c_i0));
-  w2c_l22 = w2c_j0;
+  w2c_l17 = w2c_j0;
   w2c_i0 = !(w2c_j0);
   if (w2c_i0) {
-    w2c_j0 = w2c_l22;
+    w2c_j0 = w2c_l17;
     w2c_l5 = w2c_j0;
     goto w2c_B12;
   }
@@ -86443,17 +86866,15 @@ static u64 w2c_dine_raw_world_open(Z_dine_ffi_instance_t* instance, u64 w2c_p0, 
   w2c_j0 = w2c_l2;
   w2c_j1 = 720ull;
   w2c_j0 += w2c_j1;
-  w2c_l29 = w2c_j0;
+  w2c_l30 = w2c_j0;
   w2c_j0 = w2c_l2;
   w2c_j1 = 968ull;
   w2c_j0 += w2c_j1;
-  w2c_l33 = w2c_j0;
+  w2c_l34 = w2c_j0;
   w2c_j0 = w2c_l8;
   w2c_j1 = 16ull;
   w2c_j0 += w2c_j1;
   w2c_l6 = w2c_j0;
-  w2c_j0 = 0ull;
-  w2c_l5 = w2c_j0;
   w2c_L33: 
     w2c_j0 = w2c_l2;
     w2c_i0 = (u32)(w2c_j0);
@@ -86498,10 +86919,10 @@ static u64 w2c_dine_raw_world_open(Z_dine_ffi_instance_t* instance, u64 w2c_p0, 
     w2c_j1 = 1192ull;
     w2c_j0 += w2c_j1;
     w2c_j1 = w2c_l26;
-    w2c_j2 = w2c_l5;
+    w2c_j2 = w2c_l11;
     w2c_i2 = (u32)(w2c_j2);
-    w2c_l36 = w2c_i2;
-    w2c_f78(instance, w2c_j0, w2c_j1, w2c_i2);
+    w2c_l41 = w2c_i2;
+    w2c_f79(instance, w2c_j0, w2c_j1, w2c_i2);
     w2c_j0 = w2c_l2;
     w2c_i0 = (u32)(w2c_j0);
     w2c_i0 = i32_load8_u(&instance->w2c_memory, (u64)(w2c_i0) + 1192u);
@@ -86513,35 +86934,23 @@ static u64 w2c_dine_raw_world_open(Z_dine_ffi_instance_t* instance, u64 w2c_p0, 
     w2c_j0 = w2c_l2;
     w2c_i0 = (u32)(w2c_j0);
     w2c_j0 = i64_load(&instance->w2c_memory, (u64)(w2c_i0) + 1208u);
-    w2c_l15 = w2c_j0;
+    w2c_l13 = w2c_j0;
     w2c_j0 = w2c_l2;
     w2c_i0 = (u32)(w2c_j0);
     w2c_j0 = i64_load(&instance->w2c_memory, (u64)(w2c_i0) + 1200u);
-    w2c_l12 = w2c_j0;
+    w2c_l14 = w2c_j0;
     w2c_j0 = w2c_l2;
     w2c_j1 = 1160ull;
     w2c_j0 += w2c_j1;
     w2c_j1 = w2c_l26;
-    w2c_i2 = w2c_l36;
-    w2c_f79(instance, w2c_j0, w2c_j1, w2c_i2);
+    w2c_i2 = w2c_l41;
+    w2c_f80(instance, w2c_j0, w2c_j1, w2c_i2);
     w2c_j0 = w2c_l2;
     w2c_i0 = (u32)(w2c_j0);
     w2c_i0 = i32_load8_u(&instance->w2c_memory, (u64)(w2c_i0) + 1160u);
     w2c_i0 = !(w2c_i0);
     if (w2c_i0) {
-      w2c_j0 = w2c_l2;
-      w2c_i0 = (u32)(w2c_j0);
-      w2c_j0 = i64_load(&instance->w2c_memory, (u64)(w2c_i0) + 1184u);
-      w2c_l30 = w2c_j0;
-      w2c_j0 = w2c_l2;
-      w2c_i0 = (u32)(w2c_j0);
-      w2c_j0 = i64_load(&instance->w2c_memory, (u64)(w2c_i0) + 1176u);
-      w2c_l34 = w2c_j0;
-      w2c_j0 = w2c_l2;
-      w2c_i0 = (u32)(w2c_j0);
-      w2c_j0 = i64_load(&instance->w2c_memory, (u64)(w2c_i0) + 1168u);
-      w2c_l31 = w2c_j0;
-      w2c_j0 = w2c_l5;
+      w2c_j0 = w2c_l11;
       w2c_j1 = 56ull;
       w2c_j0 *= w2c_j1;
       w2c_l7 = w2c_j0;
@@ -86549,23 +86958,44 @@ static u64 w2c_dine_raw_world_open(Z_dine_ffi_instance_t* instance, u64 w2c_p0, 
       w2c_i1 = (u32)(w2c_j1);
       w2c_j1 = i64_load(&instance->w2c_memory, (u64)(w2c_i1));
       w2c_j0 += w2c_j1;
-      w2c_j1 = 32ull;
+      w2c_l3 = w2c_j0;
+      w2c_j1 = 48ull;
       w2c_j0 += w2c_j1;
       w2c_i0 = (u32)(w2c_j0);
-      w2c_j0 = i64_load32_u(&instance->w2c_memory, (u64)(w2c_i0));
-      w2c_l18 = w2c_j0;
-      w2c_i0 = !(w2c_j0);
+      w2c_i0 = i32_load(&instance->w2c_memory, (u64)(w2c_i0));
+      w2c_j1 = w2c_l3;
+      w2c_j2 = 32ull;
+      w2c_j1 += w2c_j2;
+      w2c_i1 = (u32)(w2c_j1);
+      w2c_i1 = i32_load(&instance->w2c_memory, (u64)(w2c_i1));
+      w2c_i0 += w2c_i1;
       w2c_l38 = w2c_i0;
+      w2c_j0 = (u64)(w2c_i0);
+      w2c_l21 = w2c_j0;
+      w2c_j0 = w2c_l2;
+      w2c_i0 = (u32)(w2c_j0);
+      w2c_j0 = i64_load(&instance->w2c_memory, (u64)(w2c_i0) + 1184u);
+      w2c_l31 = w2c_j0;
+      w2c_j0 = w2c_l2;
+      w2c_i0 = (u32)(w2c_j0);
+      w2c_j0 = i64_load(&instance->w2c_memory, (u64)(w2c_i0) + 1176u);
+      w2c_l35 = w2c_j0;
+      w2c_j0 = w2c_l2;
+      w2c_i0 = (u32)(w2c_j0);
+      w2c_j0 = i64_load(&instance->w2c_memory, (u64)(w2c_i0) + 1168u);
+      w2c_l32 = w2c_j0;
+      w2c_i0 = w2c_l38;
+      w2c_i0 = !(w2c_i0);
       if (w2c_i0) {
         w2c_j0 = w2c_l2;
         w2c_j1 = 1240ull;
         w2c_j0 += w2c_j1;
-        w2c_l11 = w2c_j0;
+        w2c_l22 = w2c_j0;
         goto w2c_B39;
       }
       w2c_j0 = w2c_l2;
-      w2c_j1 = w2c_l18;
-      w2c_f136(instance, w2c_j0, w2c_j1);
+      w2c_j1 = w2c_l21;
+      w2c_f140(instance, w2c_j0, w2c_j1);
       w2c_j0 = w2c_l2;
       w2c_i0 = (u32)(w2c_j0);
       w2c_j0 = i64_load(&instance->w2c_memory, (u64)(w2c_i0));
@@ -86577,99 +87007,153 @@ static u64 w2c_dine_raw_world_open(Z_dine_ffi_instance_t* instance, u64 w2c_p0, 
       w2c_j0 = w2c_l2;
       w2c_i0 = (u32)(w2c_j0);
       w2c_j0 = i64_load(&instance->w2c_memory, (u64)(w2c_i0) + 8u);
-      w2c_l11 = w2c_j0;
+      w2c_l22 = w2c_j0;
       w2c_j0 = 0ull;
-      w2c_l4 = w2c_j0;
-      w2c_j0 = w2c_l18;
-      w2c_j1 = 1ull;
-      w2c_i0 = w2c_j0 != w2c_j1;
+      w2c_l3 = w2c_j0;
+      w2c_i0 = w2c_l38;
+      w2c_i1 = 1u;
+      w2c_i0 = w2c_i0 != w2c_i1;
       if (w2c_i0) {
-        w2c_j0 = w2c_l18;
+        w2c_j0 = w2c_l21;
         w2c_j1 = 1ull;
         w2c_j0 &= w2c_j1;
-        w2c_l35 = w2c_j0;
-        w2c_j0 = w2c_l18;
+        w2c_l36 = w2c_j0;
+        w2c_j0 = w2c_l21;
         w2c_j1 = 4294967294ull;
         w2c_j0 &= w2c_j1;
-        w2c_l24 = w2c_j0;
+        w2c_l37 = w2c_j0;
+        w2c_j0 = 0ull;
+        w2c_l5 = w2c_j0;
         w2c_j0 = 92ull;
         w2c_l3 = w2c_j0;
         w2c_L42: 
-          w2c_j0 = w2c_l4;
-          w2c_j1 = w2c_l11;
-          w2c_j0 += w2c_j1;
-          w2c_l10 = w2c_j0;
-          w2c_i0 = (u32)(w2c_j0);
+          w2c_i0 = 0u;
+          w2c_l40 = w2c_i0;
+          w2c_j0 = w2c_l5;
+          w2c_l4 = w2c_j0;
           w2c_j1 = w2c_l6;
           w2c_i1 = (u32)(w2c_j1);
           w2c_j1 = i64_load(&instance->w2c_memory, (u64)(w2c_i1));
           w2c_j2 = w2c_l7;
           w2c_j1 += w2c_j2;
-          w2c_j2 = 24ull;
+          w2c_l10 = w2c_j1;
+          w2c_j2 = 32ull;
           w2c_j1 += w2c_j2;
           w2c_i1 = (u32)(w2c_j1);
           w2c_j1 = i64_load(&instance->w2c_memory, (u64)(w2c_i1));
-          w2c_j2 = w2c_l3;
-          w2c_j1 += w2c_j2;
-          w2c_j2 = 56ull;
-          w2c_j1 -= w2c_j2;
-          w2c_i1 = (u32)(w2c_j1);
-          w2c_i1 = i32_load8_u(&instance->w2c_memory, (u64)(w2c_i1));
+          w2c_i0 = w2c_j0 < w2c_j1;
+          if (w2c_i0) {
+            w2c_j0 = w2c_l10;
+            w2c_j1 = 24ull;
+            w2c_j0 += w2c_j1;
+            w2c_i0 = (u32)(w2c_j0);
+            w2c_j0 = i64_load(&instance->w2c_memory, (u64)(w2c_i0));
+            w2c_j1 = w2c_l3;
+            w2c_j0 += w2c_j1;
+            w2c_j1 = 56ull;
+            w2c_j0 -= w2c_j1;
+            w2c_i0 = (u32)(w2c_j0);
+            w2c_i0 = i32_load8_u(&instance->w2c_memory, (u64)(w2c_i0));
+            w2c_l40 = w2c_i0;
+          }
+          w2c_j0 = w2c_l4;
+          w2c_j1 = w2c_l22;
+          w2c_j0 += w2c_j1;
+          w2c_l5 = w2c_j0;
+          w2c_i0 = (u32)(w2c_j0);
+          w2c_i1 = w2c_l40;
+          w2c_i2 = 1u;
+          w2c_i1 &= w2c_i2;
           i32_store8(&instance->w2c_memory, (u64)(w2c_i0), w2c_i1);
-          w2c_j0 = w2c_l10;
+          w2c_j0 = w2c_l5;
           w2c_j1 = 1ull;
           w2c_j0 += w2c_j1;
           w2c_i0 = (u32)(w2c_j0);
-          w2c_j1 = w2c_l6;
-          w2c_i1 = (u32)(w2c_j1);
-          w2c_j1 = i64_load(&instance->w2c_memory, (u64)(w2c_i1));
-          w2c_j2 = w2c_l7;
+          w2c_j1 = w2c_l4;
+          w2c_j2 = 1ull;
           w2c_j1 += w2c_j2;
-          w2c_j2 = 24ull;
-          w2c_j1 += w2c_j2;
-          w2c_i1 = (u32)(w2c_j1);
-          w2c_j1 = i64_load(&instance->w2c_memory, (u64)(w2c_i1));
-          w2c_j2 = w2c_l3;
-          w2c_j1 += w2c_j2;
-          w2c_i1 = (u32)(w2c_j1);
-          w2c_i1 = i32_load8_u(&instance->w2c_memory, (u64)(w2c_i1));
+          w2c_l10 = w2c_j1;
+          w2c_j2 = w2c_l6;
+          w2c_i2 = (u32)(w2c_j2);
+          w2c_j2 = i64_load(&instance->w2c_memory, (u64)(w2c_i2));
+          w2c_j3 = w2c_l7;
+          w2c_j2 += w2c_j3;
+          w2c_l28 = w2c_j2;
+          w2c_j3 = 32ull;
+          w2c_j2 += w2c_j3;
+          w2c_i2 = (u32)(w2c_j2);
+          w2c_j2 = i64_load(&instance->w2c_memory, (u64)(w2c_i2));
+          w2c_i1 = w2c_j1 < w2c_j2;
+          if (w2c_i1) {
+            w2c_j1 = w2c_l28;
+            w2c_j2 = 24ull;
+            w2c_j1 += w2c_j2;
+            w2c_i1 = (u32)(w2c_j1);
+            w2c_j1 = i64_load(&instance->w2c_memory, (u64)(w2c_i1));
+            w2c_j2 = w2c_l3;
+            w2c_j1 += w2c_j2;
+            w2c_i1 = (u32)(w2c_j1);
+            w2c_i1 = i32_load8_u(&instance->w2c_memory, (u64)(w2c_i1));
+          } else {
+            w2c_i1 = 0u;
+          }
+          w2c_i2 = 1u;
+          w2c_i1 &= w2c_i2;
           i32_store8(&instance->w2c_memory, (u64)(w2c_i0), w2c_i1);
           w2c_j0 = w2c_l3;
           w2c_j1 = 112ull;
           w2c_j0 += w2c_j1;
           w2c_l3 = w2c_j0;
-          w2c_j0 = w2c_l24;
-          w2c_j1 = w2c_l4;
-          w2c_j2 = 2ull;
-          w2c_j1 += w2c_j2;
-          w2c_l4 = w2c_j1;
+          w2c_j0 = w2c_l10;
+          w2c_j1 = 1ull;
+          w2c_j0 += w2c_j1;
+          w2c_l5 = w2c_j0;
+          w2c_j1 = w2c_l37;
           w2c_i0 = w2c_j0 != w2c_j1;
           if (w2c_i0) {goto w2c_L42;}
-        w2c_j0 = w2c_l35;
+        w2c_j0 = w2c_l36;
         w2c_i0 = !(w2c_j0);
         if (w2c_i0) {goto w2c_B39;}
+        w2c_j0 = w2c_l4;
+        w2c_j1 = 2ull;
+        w2c_j0 += w2c_j1;
+        w2c_l3 = w2c_j0;
       }
-      w2c_j0 = w2c_l4;
-      w2c_j1 = w2c_l11;
+      w2c_j0 = w2c_l3;
+      w2c_j1 = w2c_l22;
       w2c_j0 += w2c_j1;
       w2c_i0 = (u32)(w2c_j0);
-      w2c_j1 = w2c_l6;
-      w2c_i1 = (u32)(w2c_j1);
-      w2c_j1 = i64_load(&instance->w2c_memory, (u64)(w2c_i1));
-      w2c_j2 = w2c_l7;
-      w2c_j1 += w2c_j2;
-      w2c_j2 = 24ull;
-      w2c_j1 += w2c_j2;
-      w2c_i1 = (u32)(w2c_j1);
-      w2c_j1 = i64_load(&instance->w2c_memory, (u64)(w2c_i1));
-      w2c_j2 = w2c_l4;
-      w2c_j3 = 56ull;
-      w2c_j2 *= w2c_j3;
-      w2c_j1 += w2c_j2;
-      w2c_j2 = 36ull;
-      w2c_j1 += w2c_j2;
-      w2c_i1 = (u32)(w2c_j1);
-      w2c_i1 = i32_load8_u(&instance->w2c_memory, (u64)(w2c_i1));
+      w2c_j1 = w2c_l3;
+      w2c_j2 = w2c_l6;
+      w2c_i2 = (u32)(w2c_j2);
+      w2c_j2 = i64_load(&instance->w2c_memory, (u64)(w2c_i2));
+      w2c_j3 = w2c_l7;
+      w2c_j2 += w2c_j3;
+      w2c_l4 = w2c_j2;
+      w2c_j3 = 32ull;
+      w2c_j2 += w2c_j3;
+      w2c_i2 = (u32)(w2c_j2);
+      w2c_j2 = i64_load(&instance->w2c_memory, (u64)(w2c_i2));
+      w2c_i1 = w2c_j1 < w2c_j2;
+      if (w2c_i1) {
+        w2c_j1 = w2c_l4;
+        w2c_j2 = 24ull;
+        w2c_j1 += w2c_j2;
+        w2c_i1 = (u32)(w2c_j1);
+        w2c_j1 = i64_load(&instance->w2c_memory, (u64)(w2c_i1));
+        w2c_j2 = w2c_l3;
+        w2c_j3 = 56ull;
+        w2c_j2 *= w2c_j3;
+        w2c_j1 += w2c_j2;
+        w2c_j2 = 36ull;
+        w2c_j1 += w2c_j2;
+        w2c_i1 = (u32)(w2c_j1);
+        w2c_i1 = i32_load8_u(&instance->w2c_memory, (u64)(w2c_i1));
+      } else {
+        w2c_i1 = 0u;
+      }
+      w2c_i2 = 1u;
+      w2c_i1 &= w2c_i2;
       i32_store8(&instance->w2c_memory, (u64)(w2c_i0), w2c_i1);
       w2c_B39:;
       w2c_j0 = w2c_l2;
@@ -86678,55 +87162,54 @@ static u64 w2c_dine_raw_world_open(Z_dine_ffi_instance_t* instance, u64 w2c_p0, 
       i64_store(&instance->w2c_memory, (u64)(w2c_i0) + 952, w2c_j1);
       w2c_j0 = w2c_l2;
       w2c_i0 = (u32)(w2c_j0);
-      w2c_j1 = w2c_l15;
+      w2c_j1 = w2c_l13;
       i64_store(&instance->w2c_memory, (u64)(w2c_i0) + 944, w2c_j1);
       w2c_j0 = w2c_l2;
       w2c_i0 = (u32)(w2c_j0);
-      w2c_j1 = w2c_l12;
+      w2c_j1 = w2c_l14;
       i64_store(&instance->w2c_memory, (u64)(w2c_i0) + 936, w2c_j1);
       w2c_j0 = w2c_l2;
       w2c_i0 = (u32)(w2c_j0);
-      w2c_j1 = w2c_l30;
+      w2c_j1 = w2c_l31;
       i64_store(&instance->w2c_memory, (u64)(w2c_i0) + 928, w2c_j1);
       w2c_j0 = w2c_l2;
       w2c_i0 = (u32)(w2c_j0);
-      w2c_j1 = w2c_l34;
+      w2c_j1 = w2c_l35;
       i64_store(&instance->w2c_memory, (u64)(w2c_i0) + 920, w2c_j1);
       w2c_j0 = w2c_l2;
       w2c_i0 = (u32)(w2c_j0);
-      w2c_j1 = w2c_l31;
+      w2c_j1 = w2c_l32;
       i64_store(&instance->w2c_memory, (u64)(w2c_i0) + 912, w2c_j1);
       w2c_j0 = w2c_l2;
       w2c_j1 = 960ull;
       w2c_j0 += w2c_j1;
       w2c_j1 = w2c_l26;
-      w2c_i2 = w2c_l36;
+      w2c_i2 = w2c_l41;
       w2c_j3 = w2c_l2;
       w2c_j4 = 936ull;
       w2c_j3 += w2c_j4;
       w2c_j4 = w2c_l2;
       w2c_j5 = 912ull;
       w2c_j4 += w2c_j5;
-      w2c_f80(instance, w2c_j0, w2c_j1, w2c_i2, w2c_j3, w2c_j4);
+      w2c_f81(instance, w2c_j0, w2c_j1, w2c_i2, w2c_j3, w2c_j4);
       w2c_j0 = w2c_l2;
       w2c_i0 = (u32)(w2c_j0);
       w2c_i0 = i32_load8_u(&instance->w2c_memory, (u64)(w2c_i0) + 960u);
       w2c_i0 = !(w2c_i0);
       if (w2c_i0) {goto w2c_B34;}
-      w2c_j0 = w2c_l11;
-      w2c_l12 = w2c_j0;
+      w2c_j0 = w2c_l22;
+      w2c_l14 = w2c_j0;
       w2c_i0 = w2c_l38;
-      w2c_i0 = !(w2c_i0);
       if (w2c_i0) {goto w2c_B36;}
       goto w2c_B35;
     }
-    w2c_j0 = w2c_l15;
+    w2c_j0 = w2c_l13;
     w2c_i0 = !(w2c_j0);
     w2c_i0 = !(w2c_i0);
     if (w2c_i0) {
-      w2c_j0 = w2c_l12;
+      w2c_j0 = w2c_l14;
       w2c_l3 = w2c_j0;
-      w2c_L44: 
+      w2c_L47: 
         w2c_j0 = w2c_l3;
         w2c_i0 = (u32)(w2c_j0);
         w2c_j0 = i64_load(&instance->w2c_memory, (u64)(w2c_i0));
@@ -86751,13 +87234,13 @@ static u64 w2c_dine_raw_world_open(Z_dine_ffi_instance_t* instance, u64 w2c_p0, 
         w2c_j1 = 8ull;
         w2c_j0 += w2c_j1;
         w2c_l3 = w2c_j0;
-        w2c_j0 = w2c_l15;
+        w2c_j0 = w2c_l13;
         w2c_j1 = 1ull;
         w2c_j0 -= w2c_j1;
-        w2c_l15 = w2c_j0;
+        w2c_l13 = w2c_j0;
         w2c_j1 = 0ull;
         w2c_i0 = w2c_j0 != w2c_j1;
-        if (w2c_i0) {goto w2c_L44;}
+        if (w2c_i0) {goto w2c_L47;}
     }
     w2c_j0 = w2c_l27;
     w2c_i0 = !(w2c_j0);
@@ -86765,20 +87248,20 @@ static u64 w2c_dine_raw_world_open(Z_dine_ffi_instance_t* instance, u64 w2c_p0, 
     if (w2c_i0) {goto w2c_B36;}
     goto w2c_B35;
     w2c_B37:;
-    w2c_j0 = w2c_l30;
+    w2c_j0 = w2c_l31;
     w2c_i0 = !(w2c_j0);
     w2c_i0 = !(w2c_i0);
     if (w2c_i0) {
-      w2c_j0 = w2c_l31;
+      w2c_j0 = w2c_l32;
       w2c_leave(instance, w2c_j0);
     }
-    w2c_j0 = w2c_l15;
+    w2c_j0 = w2c_l13;
     w2c_i0 = !(w2c_j0);
     w2c_i0 = !(w2c_i0);
     if (w2c_i0) {
-      w2c_j0 = w2c_l12;
+      w2c_j0 = w2c_l14;
       w2c_l3 = w2c_j0;
-      w2c_L48: 
+      w2c_L51: 
         w2c_j0 = w2c_l3;
         w2c_i0 = (u32)(w2c_j0);
         w2c_j0 = i64_load(&instance->w2c_memory, (u64)(w2c_i0));
@@ -86803,19 +87286,19 @@ static u64 w2c_dine_raw_world_open(Z_dine_ffi_instance_t* instance, u64 w2c_p0, 
         w2c_j1 = 8ull;
         w2c_j0 += w2c_j1;
         w2c_l3 = w2c_j0;
-        w2c_j0 = w2c_l15;
+        w2c_j0 = w2c_l13;
         w2c_j1 = 1ull;
         w2c_j0 -= w2c_j1;
-        w2c_l15 = w2c_j0;
+        w2c_l13 = w2c_j0;
         w2c_j1 = 0ull;
         w2c_i0 = w2c_j0 != w2c_j1;
-        if (w2c_i0) {goto w2c_L48;}
+        if (w2c_i0) {goto w2c_L51;}
     }
     w2c_j0 = w2c_l27;
     w2c_i0 = !(w2c_j0);
     if (w2c_i0) {goto w2c_B35;}
     w2c_B36:;
-    w2c_j0 = w2c_l12;
+    w2c_j0 = w2c_l14;
     w2c_leave(instance, w2c_j0);
     w2c_B35:;
     w2c_j0 = w2c_l2;
@@ -86842,16 +87325,16 @@ static u64 w2c_dine_raw_world_open(Z_dine_ffi_instance_t* instance, u64 w2c_p0, 
     w2c_i0 = (u32)(w2c_j0);
     w2c_j1 = 0ull;
     i64_store(&instance->w2c_memory, (u64)(w2c_i0) + 1192, w2c_j1);
-    w2c_j0 = w2c_l5;
+    w2c_j0 = w2c_l11;
     w2c_i0 = !(w2c_j0);
     w2c_i0 = !(w2c_i0);
     if (w2c_i0) {
-      w2c_L51: 
-        w2c_j0 = w2c_l17;
-        w2c_j1 = w2c_l5;
+      w2c_L54: 
+        w2c_j0 = w2c_l16;
+        w2c_j1 = w2c_l11;
         w2c_j2 = 1ull;
         w2c_j1 -= w2c_j2;
-        w2c_l5 = w2c_j1;
+        w2c_l11 = w2c_j1;
         w2c_j2 = 8ull;
         w2c_j1 <<= (w2c_j2 & 63);
         w2c_j0 += w2c_j1;
@@ -86866,7 +87349,7 @@ static u64 w2c_dine_raw_world_open(Z_dine_ffi_instance_t* instance, u64 w2c_p0, 
         w2c_j0 += w2c_j1;
         w2c_i0 = (u32)(w2c_j0);
         w2c_i0 = i32_load8_u(&instance->w2c_memory, (u64)(w2c_i0));
-        w2c_l36 = w2c_i0;
+        w2c_l38 = w2c_i0;
         w2c_j0 = w2c_l3;
         w2c_j1 = 248ull;
         w2c_j0 += w2c_j1;
@@ -86888,7 +87371,7 @@ static u64 w2c_dine_raw_world_open(Z_dine_ffi_instance_t* instance, u64 w2c_p0, 
           w2c_j0 = w2c_p1;
           w2c_leave(instance, w2c_j0);
         }
-        w2c_i0 = w2c_l36;
+        w2c_i0 = w2c_l38;
         w2c_i1 = 255u;
         w2c_i0 &= w2c_i1;
         w2c_i1 = 1u;
@@ -86904,11 +87387,11 @@ static u64 w2c_dine_raw_world_open(Z_dine_ffi_instance_t* instance, u64 w2c_p0, 
         w2c_j0 = w2c_l2;
         w2c_i0 = (u32)(w2c_j0);
         w2c_j0 = i64_load(&instance->w2c_memory, (u64)(w2c_i0) + 1208u);
-        w2c_l19 = w2c_j0;
+        w2c_l18 = w2c_j0;
         w2c_j0 = w2c_l2;
         w2c_i0 = (u32)(w2c_j0);
         w2c_j0 = i64_load(&instance->w2c_memory, (u64)(w2c_i0) + 1192u);
-        w2c_l10 = w2c_j0;
+        w2c_l5 = w2c_j0;
         w2c_j0 = w2c_l2;
         w2c_i0 = (u32)(w2c_j0);
         w2c_j0 = i64_load(&instance->w2c_memory, (u64)(w2c_i0) + 1200u);
@@ -86916,9 +87399,9 @@ static u64 w2c_dine_raw_world_open(Z_dine_ffi_instance_t* instance, u64 w2c_p0, 
         w2c_i0 = !(w2c_j0);
         w2c_i0 = !(w2c_i0);
         if (w2c_i0) {
-          w2c_j0 = w2c_l10;
+          w2c_j0 = w2c_l5;
           w2c_l3 = w2c_j0;
-          w2c_L54: 
+          w2c_L57: 
             w2c_j0 = w2c_l3;
             w2c_i0 = (u32)(w2c_j0);
             w2c_j0 = i64_load(&instance->w2c_memory, (u64)(w2c_i0));
@@ -86949,13 +87432,13 @@ static u64 w2c_dine_raw_world_open(Z_dine_ffi_instance_t* instance, u64 w2c_p0, 
             w2c_p1 = w2c_j0;
             w2c_j1 = 0ull;
             w2c_i0 = w2c_j0 != w2c_j1;
-            if (w2c_i0) {goto w2c_L54;}
+            if (w2c_i0) {goto w2c_L57;}
         }
-        w2c_j0 = w2c_l19;
+        w2c_j0 = w2c_l18;
         w2c_i0 = !(w2c_j0);
         w2c_i0 = !(w2c_i0);
         if (w2c_i0) {
-          w2c_j0 = w2c_l10;
+          w2c_j0 = w2c_l5;
           w2c_leave(instance, w2c_j0);
         }
         w2c_j0 = w2c_l2;
@@ -86969,29 +87452,29 @@ static u64 w2c_dine_raw_world_open(Z_dine_ffi_instance_t* instance, u64 w2c_p0, 
           w2c_j0 = i64_load(&instance->w2c_memory, (u64)(w2c_i0) + 1216u);
           w2c_leave(instance, w2c_j0);
         }
-        w2c_j0 = w2c_l5;
+        w2c_j0 = w2c_l11;
         w2c_j1 = 0ull;
         w2c_i0 = w2c_j0 != w2c_j1;
-        if (w2c_i0) {goto w2c_L51;}
+        if (w2c_i0) {goto w2c_L54;}
     }
-    w2c_j0 = w2c_l17;
+    w2c_j0 = w2c_l16;
     w2c_leave(instance, w2c_j0);
     goto w2c_B9;
     w2c_B34:;
-    w2c_j0 = w2c_l29;
+    w2c_j0 = w2c_l30;
     w2c_i0 = (u32)(w2c_j0);
-    w2c_j1 = w2c_l33;
+    w2c_j1 = w2c_l34;
     w2c_i1 = (u32)(w2c_j1);
     w2c_i2 = 192u;
     memory_copy(&instance->w2c_memory, &instance->w2c_memory, w2c_i0, w2c_i1, w2c_i2);
-    w2c_j0 = w2c_l17;
-    w2c_j1 = w2c_l5;
+    w2c_j0 = w2c_l16;
+    w2c_j1 = w2c_l11;
     w2c_j2 = 8ull;
     w2c_j1 <<= (w2c_j2 & 63);
     w2c_j0 += w2c_j1;
     w2c_l3 = w2c_j0;
     w2c_i0 = (u32)(w2c_j0);
-    w2c_j1 = w2c_l29;
+    w2c_j1 = w2c_l30;
     w2c_i1 = (u32)(w2c_j1);
     w2c_i2 = 192u;
     memory_copy(&instance->w2c_memory, &instance->w2c_memory, w2c_i0, w2c_i1, w2c_i2);
@@ -87029,25 +87512,25 @@ static u64 w2c_dine_raw_world_open(Z_dine_ffi_instance_t* instance, u64 w2c_p0, 
     w2c_j1 = 248ull;
     w2c_j0 += w2c_j1;
     w2c_i0 = (u32)(w2c_j0);
-    w2c_j1 = w2c_l18;
+    w2c_j1 = w2c_l21;
     i64_store(&instance->w2c_memory, (u64)(w2c_i0), w2c_j1);
     w2c_j0 = w2c_l3;
     w2c_j1 = 240ull;
     w2c_j0 += w2c_j1;
     w2c_i0 = (u32)(w2c_j0);
-    w2c_j1 = w2c_l18;
+    w2c_j1 = w2c_l21;
     i64_store(&instance->w2c_memory, (u64)(w2c_i0), w2c_j1);
     w2c_j0 = w2c_l3;
     w2c_j1 = 232ull;
     w2c_j0 += w2c_j1;
     w2c_i0 = (u32)(w2c_j0);
-    w2c_j1 = w2c_l11;
+    w2c_j1 = w2c_l22;
     i64_store(&instance->w2c_memory, (u64)(w2c_i0), w2c_j1);
-    w2c_j0 = w2c_l5;
+    w2c_j0 = w2c_l11;
     w2c_j1 = 1ull;
     w2c_j0 += w2c_j1;
-    w2c_l5 = w2c_j0;
-    w2c_j1 = w2c_l22;
+    w2c_l11 = w2c_j0;
+    w2c_j1 = w2c_l17;
     w2c_i0 = w2c_j0 != w2c_j1;
     if (w2c_i0) {goto w2c_L33;}
   w2c_j0 = w2c_l8;
@@ -87056,109 +87539,107 @@ static u64 w2c_dine_raw_world_open(Z_dine_ffi_instance_t* instance, u64 w2c_p0, 
   w2c_i0 = (u32)(w2c_j0);
   w2c_j0 = i64_load32_u(&instance->w2c_memory, (u64)(w2c_i0));
   w2c_l5 = w2c_j0;
-  w2c_j0 = w2c_l22;
-  w2c_l11 = w2c_j0;
+  w2c_j0 = w2c_l17;
+  w2c_l28 = w2c_j0;
   w2c_B12:;
   w2c_j0 = 0ull;
-  w2c_l6 = w2c_j0;
+  w2c_l4 = w2c_j0;
   w2c_j0 = 0ull;
   w2c_l10 = w2c_j0;
   w2c_j0 = w2c_l5;
   w2c_i0 = !(w2c_j0);
   w2c_i0 = !(w2c_i0);
   if (w2c_i0) {
-    w2c_j0 = w2c_l5;
-    w2c_j1 = 3ull;
-    w2c_j0 &= w2c_j1;
-    w2c_l7 = w2c_j0;
     w2c_j0 = w2c_l8;
     w2c_j1 = 16ull;
     w2c_j0 += w2c_j1;
     w2c_i0 = (u32)(w2c_j0);
     w2c_j0 = i64_load(&instance->w2c_memory, (u64)(w2c_i0));
-    w2c_l24 = w2c_j0;
+    w2c_l10 = w2c_j0;
     w2c_j0 = 0ull;
-    w2c_l4 = w2c_j0;
+    w2c_l7 = w2c_j0;
+    w2c_j0 = 0ull;
+    w2c_l6 = w2c_j0;
     w2c_j0 = w2c_l5;
-    w2c_j1 = 4ull;
-    w2c_i0 = w2c_j0 >= w2c_j1;
+    w2c_j1 = 1ull;
+    w2c_i0 = w2c_j0 != w2c_j1;
     if (w2c_i0) {
-      w2c_j0 = w2c_l24;
-      w2c_j1 = 200ull;
+      w2c_j0 = w2c_l5;
+      w2c_j1 = 1ull;
+      w2c_j0 &= w2c_j1;
+      w2c_l11 = w2c_j0;
+      w2c_j0 = w2c_l10;
+      w2c_j1 = 104ull;
       w2c_j0 += w2c_j1;
       w2c_l3 = w2c_j0;
       w2c_j0 = w2c_l5;
-      w2c_j1 = 4294967292ull;
+      w2c_j1 = 4294967294ull;
       w2c_j0 &= w2c_j1;
       w2c_l5 = w2c_j0;
-      w2c_L61: 
+      w2c_L64: 
         w2c_j0 = w2c_l3;
         w2c_i0 = (u32)(w2c_j0);
-        w2c_j0 = i64_load32_u(&instance->w2c_memory, (u64)(w2c_i0));
+        w2c_i0 = i32_load(&instance->w2c_memory, (u64)(w2c_i0));
         w2c_j1 = w2c_l3;
-        w2c_j2 = 56ull;
+        w2c_j2 = 16ull;
         w2c_j1 -= w2c_j2;
         w2c_i1 = (u32)(w2c_j1);
-        w2c_j1 = i64_load32_u(&instance->w2c_memory, (u64)(w2c_i1));
+        w2c_i1 = i32_load(&instance->w2c_memory, (u64)(w2c_i1));
+        w2c_i0 += w2c_i1;
+        w2c_j0 = (u64)(w2c_i0);
+        w2c_j1 = w2c_l6;
         w2c_j2 = w2c_l3;
-        w2c_j3 = 112ull;
+        w2c_j3 = 56ull;
         w2c_j2 -= w2c_j3;
         w2c_i2 = (u32)(w2c_j2);
-        w2c_j2 = i64_load32_u(&instance->w2c_memory, (u64)(w2c_i2));
+        w2c_i2 = i32_load(&instance->w2c_memory, (u64)(w2c_i2));
         w2c_j3 = w2c_l3;
-        w2c_j4 = 168ull;
+        w2c_j4 = 72ull;
         w2c_j3 -= w2c_j4;
         w2c_i3 = (u32)(w2c_j3);
-        w2c_j3 = i64_load32_u(&instance->w2c_memory, (u64)(w2c_i3));
-        w2c_j4 = w2c_l4;
-        w2c_j3 += w2c_j4;
-        w2c_j2 += w2c_j3;
+        w2c_i3 = i32_load(&instance->w2c_memory, (u64)(w2c_i3));
+        w2c_i2 += w2c_i3;
+        w2c_j2 = (u64)(w2c_i2);
         w2c_j1 += w2c_j2;
         w2c_j0 += w2c_j1;
-        w2c_l4 = w2c_j0;
+        w2c_l6 = w2c_j0;
         w2c_j0 = w2c_l3;
-        w2c_j1 = 224ull;
+        w2c_j1 = 112ull;
         w2c_j0 += w2c_j1;
         w2c_l3 = w2c_j0;
         w2c_j0 = w2c_l5;
-        w2c_j1 = w2c_l10;
-        w2c_j2 = 4ull;
+        w2c_j1 = w2c_l7;
+        w2c_j2 = 2ull;
         w2c_j1 += w2c_j2;
-        w2c_l10 = w2c_j1;
+        w2c_l7 = w2c_j1;
         w2c_i0 = w2c_j0 != w2c_j1;
-        if (w2c_i0) {goto w2c_L61;}
-      w2c_j0 = w2c_l7;
+        if (w2c_i0) {goto w2c_L64;}
+      w2c_j0 = w2c_l11;
       w2c_i0 = !(w2c_j0);
-      if (w2c_i0) {goto w2c_B59;}
+      if (w2c_i0) {goto w2c_B62;}
     }
-    w2c_j0 = w2c_l10;
-    w2c_j1 = 56ull;
-    w2c_j0 *= w2c_j1;
-    w2c_j1 = w2c_l24;
+    w2c_j0 = w2c_l6;
+    w2c_j1 = w2c_l10;
+    w2c_j2 = w2c_l7;
+    w2c_j3 = 56ull;
+    w2c_j2 *= w2c_j3;
+    w2c_j1 += w2c_j2;
+    w2c_l3 = w2c_j1;
+    w2c_j2 = 48ull;
+    w2c_j1 += w2c_j2;
+    w2c_i1 = (u32)(w2c_j1);
+    w2c_i1 = i32_load(&instance->w2c_memory, (u64)(w2c_i1));
+    w2c_j2 = w2c_l3;
+    w2c_j3 = 32ull;
+    w2c_j2 += w2c_j3;
+    w2c_i2 = (u32)(w2c_j2);
+    w2c_i2 = i32_load(&instance->w2c_memory, (u64)(w2c_i2));
+    w2c_i1 += w2c_i2;
+    w2c_j1 = (u64)(w2c_i1);
     w2c_j0 += w2c_j1;
-    w2c_j1 = 32ull;
-    w2c_j0 += w2c_j1;
-    w2c_l3 = w2c_j0;
-    w2c_L62: 
-      w2c_j0 = w2c_l3;
-      w2c_i0 = (u32)(w2c_j0);
-      w2c_j0 = i64_load32_u(&instance->w2c_memory, (u64)(w2c_i0));
-      w2c_j1 = w2c_l4;
-      w2c_j0 += w2c_j1;
-      w2c_l4 = w2c_j0;
-      w2c_j0 = w2c_l3;
-      w2c_j1 = 56ull;
-      w2c_j0 += w2c_j1;
-      w2c_l3 = w2c_j0;
-      w2c_j0 = w2c_l7;
-      w2c_j1 = 1ull;
-      w2c_j0 -= w2c_j1;
-      w2c_l7 = w2c_j0;
-      w2c_j1 = 0ull;
-      w2c_i0 = w2c_j0 != w2c_j1;
-      if (w2c_i0) {goto w2c_L62;}
-    w2c_B59:;
-    w2c_j0 = w2c_l4;
+    w2c_l6 = w2c_j0;
+    w2c_B62:;
+    w2c_j0 = w2c_l6;
     w2c_j1 = 3ull;
     w2c_j0 *= w2c_j1;
     w2c_l10 = w2c_j0;
@@ -87168,7 +87649,7 @@ static u64 w2c_dine_raw_world_open(Z_dine_ffi_instance_t* instance, u64 w2c_p0, 
   w2c_j0 += w2c_j1;
   w2c_i0 = (u32)(w2c_j0);
   w2c_j0 = i64_load32_u(&instance->w2c_memory, (u64)(w2c_i0));
-  w2c_l4 = w2c_j0;
+  w2c_l6 = w2c_j0;
   w2c_i0 = !(w2c_j0);
   w2c_i0 = !(w2c_i0);
   if (w2c_i0) {
@@ -87184,8 +87665,8 @@ static u64 w2c_dine_raw_world_open(Z_dine_ffi_instance_t* instance, u64 w2c_p0, 
     w2c_i0 = (u32)(w2c_j0);
     w2c_j0 = i64_load(&instance->w2c_memory, (u64)(w2c_i0));
     w2c_l3 = w2c_j0;
-    w2c_L64: 
-      w2c_j0 = w2c_l6;
+    w2c_L66: 
+      w2c_j0 = w2c_l4;
       w2c_j1 = w2c_l7;
       w2c_j2 = w2c_l3;
       w2c_j3 = 4ull;
@@ -87195,10 +87676,18 @@ static u64 w2c_dine_raw_world_open(Z_dine_ffi_instance_t* instance, u64 w2c_p0, 
       w2c_j3 = 56ull;
       w2c_j2 *= w2c_j3;
       w2c_j1 += w2c_j2;
-      w2c_j2 = 32ull;
+      w2c_l5 = w2c_j1;
+      w2c_j2 = 48ull;
       w2c_j1 += w2c_j2;
       w2c_i1 = (u32)(w2c_j1);
-      w2c_j1 = i64_load32_u(&instance->w2c_memory, (u64)(w2c_i1));
+      w2c_i1 = i32_load(&instance->w2c_memory, (u64)(w2c_i1));
+      w2c_j2 = w2c_l5;
+      w2c_j3 = 32ull;
+      w2c_j2 += w2c_j3;
+      w2c_i2 = (u32)(w2c_j2);
+      w2c_i2 = i32_load(&instance->w2c_memory, (u64)(w2c_i2));
+      w2c_i1 += w2c_i2;
+      w2c_j1 = (u64)(w2c_i1);
       w2c_j2 = w2c_l7;
       w2c_j3 = w2c_l3;
       w2c_i3 = (u32)(w2c_j3);
@@ -87206,28 +87695,36 @@ static u64 w2c_dine_raw_world_open(Z_dine_ffi_instance_t* instance, u64 w2c_p0, 
       w2c_j4 = 56ull;
       w2c_j3 *= w2c_j4;
       w2c_j2 += w2c_j3;
-      w2c_j3 = 32ull;
+      w2c_l5 = w2c_j2;
+      w2c_j3 = 48ull;
       w2c_j2 += w2c_j3;
       w2c_i2 = (u32)(w2c_j2);
-      w2c_j2 = i64_load32_u(&instance->w2c_memory, (u64)(w2c_i2));
+      w2c_i2 = i32_load(&instance->w2c_memory, (u64)(w2c_i2));
+      w2c_j3 = w2c_l5;
+      w2c_j4 = 32ull;
+      w2c_j3 += w2c_j4;
+      w2c_i3 = (u32)(w2c_j3);
+      w2c_i3 = i32_load(&instance->w2c_memory, (u64)(w2c_i3));
+      w2c_i2 += w2c_i3;
+      w2c_j2 = (u64)(w2c_i2);
       w2c_j1 += w2c_j2;
       w2c_j2 = 2ull;
       w2c_j1 <<= (w2c_j2 & 63);
       w2c_j0 += w2c_j1;
       w2c_j1 = 8ull;
       w2c_j0 += w2c_j1;
-      w2c_l6 = w2c_j0;
+      w2c_l4 = w2c_j0;
       w2c_j0 = w2c_l3;
       w2c_j1 = 8ull;
       w2c_j0 += w2c_j1;
       w2c_l3 = w2c_j0;
-      w2c_j0 = w2c_l4;
+      w2c_j0 = w2c_l6;
       w2c_j1 = 1ull;
       w2c_j0 -= w2c_j1;
-      w2c_l4 = w2c_j0;
+      w2c_l6 = w2c_j0;
       w2c_i0 = !(w2c_j0);
       w2c_i0 = !(w2c_i0);
-      if (w2c_i0) {goto w2c_L64;}
+      if (w2c_i0) {goto w2c_L66;}
   }
   w2c_j0 = w2c_l2;
   w2c_i0 = (u32)(w2c_j0);
@@ -87393,15 +87890,15 @@ static u64 w2c_dine_raw_world_open(Z_dine_ffi_instance_t* instance, u64 w2c_p0, 
   i64_store(&instance->w2c_memory, (u64)(w2c_i0) + 424, w2c_j1);
   w2c_j0 = w2c_l2;
   w2c_i0 = (u32)(w2c_j0);
-  w2c_j1 = w2c_l21;
+  w2c_j1 = w2c_l20;
   i64_store(&instance->w2c_memory, (u64)(w2c_i0) + 168, w2c_j1);
   w2c_j0 = w2c_l2;
   w2c_i0 = (u32)(w2c_j0);
-  w2c_j1 = w2c_l11;
+  w2c_j1 = w2c_l28;
   i64_store(&instance->w2c_memory, (u64)(w2c_i0) + 160, w2c_j1);
   w2c_j0 = w2c_l2;
   w2c_i0 = (u32)(w2c_j0);
-  w2c_j1 = w2c_l17;
+  w2c_j1 = w2c_l16;
   i64_store(&instance->w2c_memory, (u64)(w2c_i0) + 152, w2c_j1);
   w2c_j0 = w2c_l2;
   w2c_i0 = (u32)(w2c_j0);
@@ -87427,17 +87924,17 @@ static u64 w2c_dine_raw_world_open(Z_dine_ffi_instance_t* instance, u64 w2c_p0, 
   i64_store(&instance->w2c_memory, (u64)(w2c_i0) + 176, w2c_j1);
   w2c_j0 = w2c_l2;
   w2c_i0 = (u32)(w2c_j0);
-  w2c_j1 = w2c_l6;
+  w2c_j1 = w2c_l4;
   w2c_j2 = w2c_l10;
   w2c_j1 += w2c_j2;
   i64_store(&instance->w2c_memory, (u64)(w2c_i0) + 224, w2c_j1);
   w2c_j0 = w2c_l2;
   w2c_i0 = (u32)(w2c_j0);
-  w2c_j1 = w2c_l28;
+  w2c_j1 = w2c_l29;
   i64_store(&instance->w2c_memory, (u64)(w2c_i0) + 216, w2c_j1);
   w2c_j0 = w2c_l2;
   w2c_i0 = (u32)(w2c_j0);
-  w2c_j1 = w2c_l19;
+  w2c_j1 = w2c_l18;
   i64_store(&instance->w2c_memory, (u64)(w2c_i0) + 208, w2c_j1);
   w2c_j0 = w2c_l2;
   w2c_i0 = (u32)(w2c_j0);
@@ -87485,15 +87982,15 @@ static u64 w2c_dine_raw_world_open(Z_dine_ffi_instance_t* instance, u64 w2c_p0, 
   i64_store(&instance->w2c_memory, (u64)(w2c_i0) + 336, w2c_j1);
   w2c_j0 = w2c_l2;
   w2c_i0 = (u32)(w2c_j0);
-  w2c_j1 = w2c_l16;
+  w2c_j1 = w2c_l15;
   i64_store(&instance->w2c_memory, (u64)(w2c_i0) + 328, w2c_j1);
   w2c_j0 = w2c_l2;
   w2c_i0 = (u32)(w2c_j0);
-  w2c_j1 = w2c_l32;
+  w2c_j1 = w2c_l33;
   i64_store(&instance->w2c_memory, (u64)(w2c_i0) + 320, w2c_j1);
   w2c_j0 = w2c_l2;
   w2c_i0 = (u32)(w2c_j0);
-  w2c_j1 = w2c_l20;
+  w2c_j1 = w2c_l19;
   i64_store(&instance->w2c_memory, (u64)(w2c_i0) + 312, w2c_j1);
   w2c_j0 = w2c_l2;
   w2c_i0 = (u32)(w2c_j0);
@@ -87501,11 +87998,11 @@ static u64 w2c_dine_raw_world_open(Z_dine_ffi_instance_t* instance, u64 w2c_p0, 
   i64_store(&instance->w2c_memory, (u64)(w2c_i0) + 304, w2c_j1);
   w2c_j0 = w2c_l2;
   w2c_i0 = (u32)(w2c_j0);
-  w2c_j1 = w2c_l13;
+  w2c_j1 = w2c_l24;
   i64_store(&instance->w2c_memory, (u64)(w2c_i0) + 296, w2c_j1);
   w2c_j0 = w2c_l2;
   w2c_i0 = (u32)(w2c_j0);
-  w2c_j1 = w2c_l14;
+  w2c_j1 = w2c_l12;
   i64_store(&instance->w2c_memory, (u64)(w2c_i0) + 288, w2c_j1);
   w2c_j0 = w2c_l2;
   w2c_i0 = (u32)(w2c_j0);
@@ -87520,13 +88017,13 @@ static u64 w2c_dine_raw_world_open(Z_dine_ffi_instance_t* instance, u64 w2c_p0, 
   w2c_B11:;
   UNREACHABLE;
   w2c_B10:;
-  w2c_j0 = w2c_l14;
+  w2c_j0 = w2c_l12;
   w2c_leave(instance, w2c_j0);
   w2c_j0 = w2c_l2;
   w2c_j1 = 640ull;
   w2c_j0 += w2c_j1;
   w2c_f5(instance, w2c_j0);
-  w2c_i0 = w2c_l36;
+  w2c_i0 = w2c_l38;
   w2c_i0 = !(w2c_i0);
   if (w2c_i0) {
     w2c_j0 = w2c_l4;
@@ -87536,14 +88033,14 @@ static u64 w2c_dine_raw_world_open(Z_dine_ffi_instance_t* instance, u64 w2c_p0, 
   w2c_j1 = 688ull;
   w2c_j0 += w2c_j1;
   w2c_f6(instance, w2c_j0);
-  w2c_i0 = w2c_l37;
+  w2c_i0 = w2c_l39;
   w2c_i0 = !(w2c_i0);
   if (w2c_i0) {goto w2c_B4;}
   goto w2c_B5;
   w2c_B9:;
-  w2c_j0 = w2c_l20;
+  w2c_j0 = w2c_l19;
   w2c_leave(instance, w2c_j0);
-  w2c_j0 = w2c_l14;
+  w2c_j0 = w2c_l12;
   w2c_leave(instance, w2c_j0);
   w2c_j0 = w2c_l2;
   w2c_j1 = 640ull;
@@ -87552,68 +88049,68 @@ static u64 w2c_dine_raw_world_open(Z_dine_ffi_instance_t* instance, u64 w2c_p0, 
   w2c_j0 = w2c_l2;
   w2c_j1 = 664ull;
   w2c_j0 += w2c_j1;
-  w2c_l5 = w2c_j0;
+  w2c_p1 = w2c_j0;
   w2c_i0 = (u32)(w2c_j0);
   w2c_j0 = i64_load(&instance->w2c_memory, (u64)(w2c_i0) + 16u);
-  w2c_l3 = w2c_j0;
-  w2c_j0 = w2c_l5;
+  w2c_l4 = w2c_j0;
+  w2c_j0 = w2c_p1;
   w2c_i0 = (u32)(w2c_j0);
   w2c_j0 = i64_load(&instance->w2c_memory, (u64)(w2c_i0));
-  w2c_p1 = w2c_j0;
-  w2c_j0 = w2c_l5;
+  w2c_l5 = w2c_j0;
+  w2c_j0 = w2c_p1;
   w2c_i0 = (u32)(w2c_j0);
   w2c_j0 = i64_load(&instance->w2c_memory, (u64)(w2c_i0) + 8u);
-  w2c_l12 = w2c_j0;
+  w2c_l17 = w2c_j0;
   w2c_i0 = !(w2c_j0);
   w2c_i0 = !(w2c_i0);
   if (w2c_i0) {
-    w2c_j0 = w2c_p1;
-    w2c_l5 = w2c_j0;
-    w2c_L67: 
-      w2c_j0 = w2c_l5;
+    w2c_j0 = w2c_l5;
+    w2c_p1 = w2c_j0;
+    w2c_L69: 
+      w2c_j0 = w2c_p1;
       w2c_i0 = (u32)(w2c_j0);
       w2c_j0 = i64_load(&instance->w2c_memory, (u64)(w2c_i0));
-      w2c_l9 = w2c_j0;
+      w2c_l3 = w2c_j0;
       w2c_i0 = (u32)(w2c_j0);
       w2c_j0 = i64_load(&instance->w2c_memory, (u64)(w2c_i0) + 48u);
-      w2c_l11 = w2c_j0;
-      w2c_j0 = w2c_l9;
+      w2c_l14 = w2c_j0;
+      w2c_j0 = w2c_l3;
       w2c_i0 = (u32)(w2c_j0);
       w2c_j0 = i64_load(&instance->w2c_memory, (u64)(w2c_i0) + 64u);
-      w2c_l22 = w2c_j0;
-      w2c_j0 = w2c_l9;
+      w2c_l9 = w2c_j0;
+      w2c_j0 = w2c_l3;
       w2c_leave(instance, w2c_j0);
-      w2c_j0 = w2c_l22;
+      w2c_j0 = w2c_l9;
       w2c_i0 = !(w2c_j0);
       w2c_i0 = !(w2c_i0);
       if (w2c_i0) {
-        w2c_j0 = w2c_l11;
+        w2c_j0 = w2c_l14;
         w2c_leave(instance, w2c_j0);
       }
-      w2c_j0 = w2c_l5;
+      w2c_j0 = w2c_p1;
       w2c_j1 = 8ull;
       w2c_j0 += w2c_j1;
-      w2c_l5 = w2c_j0;
-      w2c_j0 = w2c_l12;
+      w2c_p1 = w2c_j0;
+      w2c_j0 = w2c_l17;
       w2c_j1 = 1ull;
       w2c_j0 -= w2c_j1;
-      w2c_l12 = w2c_j0;
+      w2c_l17 = w2c_j0;
       w2c_j1 = 0ull;
       w2c_i0 = w2c_j0 != w2c_j1;
-      if (w2c_i0) {goto w2c_L67;}
+      if (w2c_i0) {goto w2c_L69;}
   }
-  w2c_j0 = w2c_l3;
+  w2c_j0 = w2c_l4;
   w2c_i0 = !(w2c_j0);
   w2c_i0 = !(w2c_i0);
   if (w2c_i0) {
-    w2c_j0 = w2c_p1;
+    w2c_j0 = w2c_l5;
     w2c_leave(instance, w2c_j0);
   }
   w2c_j0 = w2c_l2;
   w2c_j1 = 688ull;
   w2c_j0 += w2c_j1;
   w2c_f6(instance, w2c_j0);
-  w2c_i0 = w2c_l37;
+  w2c_i0 = w2c_l39;
   w2c_i0 = !(w2c_i0);
   if (w2c_i0) {goto w2c_B4;}
   w2c_B5:;
@@ -87633,7 +88130,7 @@ static u64 w2c_dine_raw_world_open(Z_dine_ffi_instance_t* instance, u64 w2c_p0, 
   w2c_i0 = (u32)(w2c_j0);
   w2c_j1 = w2c_l25;
   w2c_j2 = 0ull;
-  w2c_i3 = w2c_l39;
+  w2c_i3 = w2c_l42;
   w2c_i4 = 1701734756u;
   w2c_i3 = w2c_i3 == w2c_i4;
   w2c_j1 = w2c_i3 ? w2c_j1 : w2c_j2;
@@ -87849,7 +88346,7 @@ static u64 w2c_dine_raw_world_replay(Z_dine_ffi_instance_t* instance, u64 w2c_p0
           w2c_i1 = (u32)(w2c_j1);
           w2c_j2 = w2c_l7;
           w2c_i3 = w2c_l14;
-          w2c_i2 = w2c_f82(instance, w2c_j2, w2c_i3);
+          w2c_i2 = w2c_f83(instance, w2c_j2, w2c_i3);
           i32_store(&instance->w2c_memory, (u64)(w2c_i1), w2c_i2);
           w2c_j1 = 18446744073709551614ull;
           w2c_j2 = w2c_l4;
@@ -87882,7 +88379,7 @@ static u64 w2c_dine_raw_world_replay(Z_dine_ffi_instance_t* instance, u64 w2c_p0
       w2c_j2 += w2c_j3;
       w2c_i2 = (u32)(w2c_j2);
       w2c_i2 = i32_load(&instance->w2c_memory, (u64)(w2c_i2));
-      w2c_f83(instance, w2c_j0, w2c_j1, w2c_i2);
+      w2c_f84(instance, w2c_j0, w2c_j1, w2c_i2);
       w2c_j0 = w2c_l3;
       w2c_i0 = (u32)(w2c_j0);
       w2c_i0 = i32_load8_u(&instance->w2c_memory, (u64)(w2c_i0));
@@ -87911,7 +88408,7 @@ static u64 w2c_dine_raw_world_replay(Z_dine_ffi_instance_t* instance, u64 w2c_p0
         w2c_j1 = w2c_l3;
         w2c_j2 = 20ull;
         w2c_j1 += w2c_j2;
-        w2c_f84(instance, w2c_j0, w2c_j1);
+        w2c_f85(instance, w2c_j0, w2c_j1);
         w2c_j0 = w2c_l6;
         w2c_j1 = 1ull;
         w2c_j0 += w2c_j1;
@@ -88439,7 +88936,7 @@ static u64 w2c_dine_raw_world_step(Z_dine_ffi_instance_t* instance, u64 w2c_p0, 
     w2c_j1 = w2c_l6;
     w2c_j2 = 4ull;
     w2c_j1 += w2c_j2;
-    w2c_f84(instance, w2c_j0, w2c_j1);
+    w2c_f85(instance, w2c_j0, w2c_j1);
     w2c_j0 = 0ull;
     w2c_l7 = w2c_j0;
     w2c_B1:;
@@ -88457,6 +88954,303 @@ static u64 w2c_dine_raw_world_step(Z_dine_ffi_instance_t* instance, u64 w2c_p0, 
   w2c_j0 += w2c_j1;
   instance->w2c_g0 = w2c_j0;
   w2c_j0 = w2c_l7;
+  FUNC_EPILOGUE;
+  return w2c_j0;
+}
+
+static u64 w2c_dine_raw_site_turn(Z_dine_ffi_instance_t* instance, u64 w2c_p0, u64 w2c_p1, u64 w2c_p2, u64 w2c_p3) {
+  u32 w2c_l8 = 0, w2c_l9 = 0, w2c_l10 = 0;
+  u64 w2c_l4 = 0, w2c_l5 = 0, w2c_l6 = 0, w2c_l7 = 0;
+  FUNC_PROLOGUE;
+  u32 w2c_i0, w2c_i1, w2c_i2, w2c_i3;
+  u64 w2c_j0, w2c_j1, w2c_j2, w2c_j3;
+  w2c_j0 = instance->w2c_g0;
+  w2c_j1 = 32ull;
+  w2c_j0 -= w2c_j1;
+  w2c_l5 = w2c_j0;
+  instance->w2c_g0 = w2c_j0;
+  w2c_j0 = w2c_p0;
+  w2c_i0 = (u32)(w2c_j0);
+  w2c_j0 = i64_load(&instance->w2c_memory, (u64)(w2c_i0));
+  w2c_l4 = w2c_j0;
+  w2c_j0 = w2c_p0;
+  w2c_i0 = (u32)(w2c_j0);
+  w2c_j1 = 0ull;
+  i64_store(&instance->w2c_memory, (u64)(w2c_i0), w2c_j1);
+  w2c_j0 = w2c_p0;
+  w2c_i0 = (u32)(w2c_j0);
+  w2c_i0 = i32_load(&instance->w2c_memory, (u64)(w2c_i0) + 8u);
+  w2c_l8 = w2c_i0;
+  w2c_j0 = w2c_p0;
+  w2c_i0 = (u32)(w2c_j0);
+  w2c_j1 = 0ull;
+  i64_store(&instance->w2c_memory, (u64)(w2c_i0) + 8, w2c_j1);
+  w2c_j0 = 18446744073709551615ull;
+  w2c_l6 = w2c_j0;
+  w2c_i0 = w2c_l8;
+  w2c_i1 = 1701734756u;
+  w2c_i0 = w2c_i0 == w2c_i1;
+  if (w2c_i0) {
+    w2c_j0 = w2c_l4;
+    w2c_j1 = 0ull;
+    w2c_i2 = w2c_l8;
+    w2c_i3 = 1701734756u;
+    w2c_i2 = w2c_i2 == w2c_i3;
+    w2c_j0 = w2c_i2 ? w2c_j0 : w2c_j1;
+    w2c_l7 = w2c_j0;
+    w2c_j0 = 18446744073709551614ull;
+    w2c_l6 = w2c_j0;
+    w2c_j0 = w2c_l4;
+    w2c_i0 = (u32)(w2c_j0);
+    w2c_i0 = i32_load8_u(&instance->w2c_memory, (u64)(w2c_i0));
+    w2c_i1 = 2u;
+    w2c_i0 = w2c_i0 != w2c_i1;
+    if (w2c_i0) {goto w2c_B1;}
+    w2c_j0 = w2c_l4;
+    w2c_j1 = 216ull;
+    w2c_j0 += w2c_j1;
+    w2c_i0 = (u32)(w2c_j0);
+    w2c_i0 = i32_load8_u(&instance->w2c_memory, (u64)(w2c_i0));
+    w2c_i1 = 1u;
+    w2c_i0 = w2c_i0 == w2c_i1;
+    if (w2c_i0) {
+      w2c_j0 = 18446744073709551609ull;
+      w2c_l6 = w2c_j0;
+      goto w2c_B1;
+    }
+    w2c_j0 = w2c_l5;
+    w2c_j1 = 8ull;
+    w2c_j0 += w2c_j1;
+    w2c_j1 = w2c_l4;
+    w2c_j2 = 24ull;
+    w2c_j1 += w2c_j2;
+    w2c_l6 = w2c_j1;
+    w2c_f77(instance, w2c_j0, w2c_j1);
+    w2c_j0 = w2c_l5;
+    w2c_i0 = (u32)(w2c_j0);
+    w2c_i0 = i32_load8_u(&instance->w2c_memory, (u64)(w2c_i0) + 8u);
+    w2c_i1 = 1u;
+    w2c_i0 = w2c_i0 == w2c_i1;
+    if (w2c_i0) {
+      w2c_j0 = w2c_p2;
+      w2c_j1 = 4096ull;
+      w2c_j2 = 0ull;
+      w2c_j3 = w2c_p2;
+      w2c_i3 = !(w2c_j3);
+      w2c_j1 = w2c_i3 ? w2c_j1 : w2c_j2;
+      w2c_j0 += w2c_j1;
+      w2c_p2 = w2c_j0;
+      w2c_j0 = w2c_l4;
+      w2c_j1 = 8ull;
+      w2c_j0 += w2c_j1;
+      w2c_l4 = w2c_j0;
+      w2c_j0 = w2c_l5;
+      w2c_i0 = (u32)(w2c_j0);
+      w2c_i0 = i32_load(&instance->w2c_memory, (u64)(w2c_i0) + 16u);
+      w2c_l9 = w2c_i0;
+      w2c_j0 = w2c_l6;
+      w2c_i0 = (u32)(w2c_j0);
+      w2c_i0 = i32_load(&instance->w2c_memory, (u64)(w2c_i0));
+      w2c_l10 = w2c_i0;
+      w2c_j0 = w2c_l5;
+      w2c_i0 = (u32)(w2c_j0);
+      w2c_i0 = i32_load8_u(&instance->w2c_memory, (u64)(w2c_i0) + 12u);
+      w2c_l8 = w2c_i0;
+      w2c_i1 = 1u;
+      w2c_i0 -= w2c_i1;
+      switch (w2c_i0) {
+        case 0: goto w2c_B12;
+        case 1: goto w2c_B11;
+        case 2: goto w2c_B10;
+        case 3: goto w2c_B9;
+        case 4: goto w2c_B8;
+        case 5: goto w2c_B7;
+        case 6: goto w2c_B6;
+        case 7: goto w2c_B5;
+        default: goto w2c_B4;
+      }
+      w2c_B12:;
+      w2c_i0 = 1u;
+      w2c_l8 = w2c_i0;
+      goto w2c_B4;
+      w2c_B11:;
+      w2c_i0 = 0u;
+      w2c_l9 = w2c_i0;
+      w2c_i0 = 2u;
+      w2c_l8 = w2c_i0;
+      goto w2c_B4;
+      w2c_B10:;
+      w2c_i0 = 0u;
+      w2c_l9 = w2c_i0;
+      w2c_i0 = 3u;
+      w2c_l8 = w2c_i0;
+      goto w2c_B4;
+      w2c_B9:;
+      w2c_i0 = 0u;
+      w2c_l9 = w2c_i0;
+      w2c_i0 = 4u;
+      w2c_l8 = w2c_i0;
+      goto w2c_B4;
+      w2c_B8:;
+      w2c_i0 = 0u;
+      w2c_l9 = w2c_i0;
+      w2c_i0 = 5u;
+      w2c_l8 = w2c_i0;
+      goto w2c_B4;
+      w2c_B7:;
+      w2c_i0 = 6u;
+      w2c_l8 = w2c_i0;
+      goto w2c_B4;
+      w2c_B6:;
+      w2c_i0 = 7u;
+      w2c_l8 = w2c_i0;
+      goto w2c_B4;
+      w2c_B5:;
+      w2c_i0 = 8u;
+      w2c_l8 = w2c_i0;
+      w2c_B4:;
+      w2c_j0 = w2c_l5;
+      w2c_i0 = (u32)(w2c_j0);
+      w2c_i1 = w2c_l9;
+      i32_store(&instance->w2c_memory, (u64)(w2c_i0) + 28, w2c_i1);
+      w2c_j0 = w2c_l5;
+      w2c_i0 = (u32)(w2c_j0);
+      w2c_i1 = w2c_l8;
+      i32_store(&instance->w2c_memory, (u64)(w2c_i0) + 24, w2c_i1);
+      w2c_j0 = w2c_l5;
+      w2c_i0 = (u32)(w2c_j0);
+      w2c_i1 = w2c_l10;
+      i32_store(&instance->w2c_memory, (u64)(w2c_i0) + 20, w2c_i1);
+      w2c_j0 = w2c_l4;
+      w2c_j1 = w2c_l5;
+      w2c_j2 = 20ull;
+      w2c_j1 += w2c_j2;
+      w2c_j2 = w2c_p2;
+      w2c_j3 = w2c_p3;
+      w2c_j0 = w2c_f74(instance, w2c_j0, w2c_j1, w2c_j2, w2c_j3);
+      w2c_l6 = w2c_j0;
+      w2c_j1 = 0ull;
+      w2c_i0 = (u64)((s64)w2c_j0 < (s64)w2c_j1);
+      if (w2c_i0) {goto w2c_B1;}
+      w2c_j0 = w2c_p1;
+      w2c_i0 = (u32)(w2c_j0);
+      w2c_j1 = w2c_l5;
+      w2c_i1 = (u32)(w2c_j1);
+      w2c_i1 = i32_load(&instance->w2c_memory, (u64)(w2c_i1) + 28u);
+      i32_store(&instance->w2c_memory, (u64)(w2c_i0) + 8, w2c_i1);
+      w2c_j0 = w2c_p1;
+      w2c_i0 = (u32)(w2c_j0);
+      w2c_j1 = w2c_l5;
+      w2c_i1 = (u32)(w2c_j1);
+      w2c_j1 = i64_load(&instance->w2c_memory, (u64)(w2c_i1) + 20u);
+      i64_store(&instance->w2c_memory, (u64)(w2c_i0), w2c_j1);
+      goto w2c_B1;
+    }
+    w2c_j0 = 18446744073709551600ull;
+    w2c_l6 = w2c_j0;
+    w2c_j0 = w2c_l4;
+    w2c_j1 = 57ull;
+    w2c_j0 += w2c_j1;
+    w2c_i0 = (u32)(w2c_j0);
+    w2c_i0 = i32_load8_u(&instance->w2c_memory, (u64)(w2c_i0));
+    if (w2c_i0) {goto w2c_B1;}
+    w2c_j0 = w2c_l4;
+    w2c_j1 = 60ull;
+    w2c_j0 += w2c_j1;
+    w2c_i0 = (u32)(w2c_j0);
+    w2c_i0 = i32_load(&instance->w2c_memory, (u64)(w2c_i0));
+    w2c_j1 = w2c_l4;
+    w2c_j2 = 28ull;
+    w2c_j1 += w2c_j2;
+    w2c_i1 = (u32)(w2c_j1);
+    w2c_i1 = i32_load(&instance->w2c_memory, (u64)(w2c_i1));
+    w2c_i0 = w2c_i0 != w2c_i1;
+    if (w2c_i0) {
+      w2c_j0 = w2c_l4;
+      w2c_j1 = 65ull;
+      w2c_j0 += w2c_j1;
+      w2c_i0 = (u32)(w2c_j0);
+      w2c_i0 = i32_load8_u(&instance->w2c_memory, (u64)(w2c_i0));
+      w2c_i1 = 1u;
+      w2c_i0 = w2c_i0 != w2c_i1;
+      if (w2c_i0) {goto w2c_B1;}
+    }
+    w2c_j0 = w2c_l4;
+    w2c_j1 = 80ull;
+    w2c_j0 += w2c_j1;
+    w2c_i0 = (u32)(w2c_j0);
+    w2c_j0 = i64_load(&instance->w2c_memory, (u64)(w2c_i0));
+    w2c_j1 = 1ull;
+    w2c_j0 += w2c_j1;
+    w2c_p2 = w2c_j0;
+    w2c_j0 = w2c_l4;
+    w2c_j1 = 72ull;
+    w2c_j0 += w2c_j1;
+    w2c_i0 = (u32)(w2c_j0);
+    w2c_j0 = i64_load(&instance->w2c_memory, (u64)(w2c_i0));
+    w2c_j1 = 51ull;
+    w2c_j0 += w2c_j1;
+    w2c_l4 = w2c_j0;
+    w2c_L14: 
+      w2c_j0 = w2c_p2;
+      w2c_j1 = 1ull;
+      w2c_j0 -= w2c_j1;
+      w2c_p2 = w2c_j0;
+      w2c_i0 = !(w2c_j0);
+      if (w2c_i0) {
+        w2c_j0 = 18446744073709551599ull;
+        w2c_l6 = w2c_j0;
+        goto w2c_B1;
+      }
+      w2c_j0 = w2c_l4;
+      w2c_j1 = 3ull;
+      w2c_j0 -= w2c_j1;
+      w2c_i0 = (u32)(w2c_j0);
+      w2c_i0 = i32_load8_u(&instance->w2c_memory, (u64)(w2c_i0));
+      w2c_i1 = 1u;
+      w2c_i0 = w2c_i0 != w2c_i1;
+      if (w2c_i0) {goto w2c_B1;}
+      w2c_j0 = w2c_l4;
+      w2c_j1 = 2ull;
+      w2c_j0 -= w2c_j1;
+      w2c_i0 = (u32)(w2c_j0);
+      w2c_i0 = i32_load8_u(&instance->w2c_memory, (u64)(w2c_i0));
+      w2c_i1 = 1u;
+      w2c_i0 = w2c_i0 != w2c_i1;
+      if (w2c_i0) {goto w2c_B1;}
+      w2c_j0 = w2c_l4;
+      w2c_j1 = 1ull;
+      w2c_j0 -= w2c_j1;
+      w2c_i0 = (u32)(w2c_j0);
+      w2c_i0 = i32_load8_u(&instance->w2c_memory, (u64)(w2c_i0));
+      w2c_i1 = 1u;
+      w2c_i0 = w2c_i0 != w2c_i1;
+      if (w2c_i0) {goto w2c_B1;}
+      w2c_j0 = w2c_l4;
+      w2c_i0 = (u32)(w2c_j0);
+      w2c_i0 = i32_load8_u(&instance->w2c_memory, (u64)(w2c_i0));
+      w2c_l8 = w2c_i0;
+      w2c_j0 = w2c_l4;
+      w2c_j1 = 56ull;
+      w2c_j0 += w2c_j1;
+      w2c_l4 = w2c_j0;
+      w2c_i0 = w2c_l8;
+      if (w2c_i0) {goto w2c_L14;}
+    w2c_B1:;
+    w2c_j0 = w2c_p0;
+    w2c_i0 = (u32)(w2c_j0);
+    w2c_j1 = 1701734756ull;
+    i64_store(&instance->w2c_memory, (u64)(w2c_i0) + 8, w2c_j1);
+    w2c_j0 = w2c_p0;
+    w2c_i0 = (u32)(w2c_j0);
+    w2c_j1 = w2c_l7;
+    i64_store(&instance->w2c_memory, (u64)(w2c_i0), w2c_j1);
+  }
+  w2c_j0 = w2c_l5;
+  w2c_j1 = 32ull;
+  w2c_j0 += w2c_j1;
+  instance->w2c_g0 = w2c_j0;
+  w2c_j0 = w2c_l6;
   FUNC_EPILOGUE;
   return w2c_j0;
 }
@@ -88814,7 +89608,7 @@ static u64 w2c_dine_raw_world_value(Z_dine_ffi_instance_t* instance, u64 w2c_p0,
     w2c_j2 = 8ull;
     w2c_j1 += w2c_j2;
     w2c_i2 = w2c_p1;
-    w2c_f86(instance, w2c_j0, w2c_j1, w2c_i2);
+    w2c_f87(instance, w2c_j0, w2c_j1, w2c_i2);
     w2c_j0 = 18446744073709551612ull;
     w2c_j1 = w2c_l2;
     w2c_i1 = (u32)(w2c_j1);
@@ -88858,10 +89652,10 @@ static u64 w2c_dine_raw_world_value(Z_dine_ffi_instance_t* instance, u64 w2c_p0,
 }
 
 static u64 w2c_dine_raw_site_take(Z_dine_ffi_instance_t* instance, u64 w2c_p0, u64 w2c_p1, u64 w2c_p2) {
-  u32 w2c_l15 = 0, w2c_l16 = 0, w2c_l17 = 0, w2c_l18 = 0, w2c_l19 = 0, w2c_l20 = 0, w2c_l21 = 0, w2c_l22 = 0, 
-      w2c_l23 = 0, w2c_l24 = 0;
+  u32 w2c_l20 = 0, w2c_l21 = 0, w2c_l22 = 0, w2c_l23 = 0, w2c_l24 = 0, w2c_l25 = 0, w2c_l26 = 0, w2c_l27 = 0;
   u64 w2c_l3 = 0, w2c_l4 = 0, w2c_l5 = 0, w2c_l6 = 0, w2c_l7 = 0, w2c_l8 = 0, w2c_l9 = 0, w2c_l10 = 0, 
-      w2c_l11 = 0, w2c_l12 = 0, w2c_l13 = 0, w2c_l14 = 0;
+      w2c_l11 = 0, w2c_l12 = 0, w2c_l13 = 0, w2c_l14 = 0, w2c_l15 = 0, w2c_l16 = 0, w2c_l17 = 0, w2c_l18 = 0, 
+      w2c_l19 = 0;
   FUNC_PROLOGUE;
   u32 w2c_i0, w2c_i1, w2c_i2, w2c_i3, w2c_i4, w2c_i5;
   u64 w2c_j0, w2c_j1, w2c_j2, w2c_j3, w2c_j4, w2c_j5;
@@ -88873,7 +89667,7 @@ static u64 w2c_dine_raw_site_take(Z_dine_ffi_instance_t* instance, u64 w2c_p0, u
   w2c_j0 = w2c_p0;
   w2c_i0 = (u32)(w2c_j0);
   w2c_j0 = i64_load(&instance->w2c_memory, (u64)(w2c_i0));
-  w2c_l4 = w2c_j0;
+  w2c_l6 = w2c_j0;
   w2c_j0 = w2c_p0;
   w2c_i0 = (u32)(w2c_j0);
   w2c_j1 = 0ull;
@@ -88881,36 +89675,36 @@ static u64 w2c_dine_raw_site_take(Z_dine_ffi_instance_t* instance, u64 w2c_p0, u
   w2c_j0 = w2c_p0;
   w2c_i0 = (u32)(w2c_j0);
   w2c_i0 = i32_load(&instance->w2c_memory, (u64)(w2c_i0) + 8u);
-  w2c_l16 = w2c_i0;
+  w2c_l20 = w2c_i0;
   w2c_j0 = w2c_p0;
   w2c_i0 = (u32)(w2c_j0);
   w2c_j1 = 0ull;
   i64_store(&instance->w2c_memory, (u64)(w2c_i0) + 8, w2c_j1);
   w2c_j0 = 18446744073709551615ull;
-  w2c_l5 = w2c_j0;
-  w2c_i0 = w2c_l16;
+  w2c_l4 = w2c_j0;
+  w2c_i0 = w2c_l20;
   w2c_i1 = 1701734756u;
   w2c_i0 = w2c_i0 == w2c_i1;
   if (w2c_i0) {
-    w2c_j0 = w2c_l4;
+    w2c_j0 = w2c_l6;
     w2c_j1 = 0ull;
-    w2c_i2 = w2c_l16;
+    w2c_i2 = w2c_l20;
     w2c_i3 = 1701734756u;
     w2c_i2 = w2c_i2 == w2c_i3;
     w2c_j0 = w2c_i2 ? w2c_j0 : w2c_j1;
-    w2c_l12 = w2c_j0;
-    w2c_j0 = w2c_l4;
+    w2c_l16 = w2c_j0;
+    w2c_j0 = w2c_l6;
     w2c_i0 = (u32)(w2c_j0);
     w2c_i0 = i32_load8_u(&instance->w2c_memory, (u64)(w2c_i0));
     w2c_i1 = 2u;
     w2c_i0 = w2c_i0 != w2c_i1;
     if (w2c_i0) {
       w2c_j0 = 18446744073709551614ull;
-      w2c_l5 = w2c_j0;
+      w2c_l4 = w2c_j0;
       goto w2c_B1;
     }
     w2c_j0 = 18446744073709551605ull;
-    w2c_l5 = w2c_j0;
+    w2c_l4 = w2c_j0;
     w2c_j0 = w2c_p2;
     w2c_j1 = 8ull;
     w2c_i0 = w2c_j0 < w2c_j1;
@@ -88925,7 +89719,7 @@ static u64 w2c_dine_raw_site_take(Z_dine_ffi_instance_t* instance, u64 w2c_p0, u
     w2c_p1 = w2c_j0;
     w2c_i0 = (u32)(w2c_j0);
     w2c_j0 = i64_load(&instance->w2c_memory, (u64)(w2c_i0));
-    w2c_j1 = w2c_l4;
+    w2c_j1 = w2c_l6;
     w2c_j2 = 16ull;
     w2c_j1 += w2c_j2;
     w2c_i1 = (u32)(w2c_j1);
@@ -88933,7 +89727,7 @@ static u64 w2c_dine_raw_site_take(Z_dine_ffi_instance_t* instance, u64 w2c_p0, u
     w2c_i0 = w2c_j0 != w2c_j1;
     if (w2c_i0) {
       w2c_j0 = 18446744073709551601ull;
-      w2c_l5 = w2c_j0;
+      w2c_l4 = w2c_j0;
       goto w2c_B1;
     }
     w2c_j0 = w2c_p2;
@@ -88947,7 +89741,7 @@ static u64 w2c_dine_raw_site_take(Z_dine_ffi_instance_t* instance, u64 w2c_p0, u
     w2c_j0 += w2c_j1;
     w2c_i0 = (u32)(w2c_j0);
     w2c_i0 = i32_load8_u(&instance->w2c_memory, (u64)(w2c_i0));
-    w2c_l16 = w2c_i0;
+    w2c_l20 = w2c_i0;
     w2c_i1 = 5u;
     w2c_i0 -= w2c_i1;
     w2c_i1 = 255u;
@@ -88956,10 +89750,10 @@ static u64 w2c_dine_raw_site_take(Z_dine_ffi_instance_t* instance, u64 w2c_p0, u
     w2c_i0 = w2c_i0 < w2c_i1;
     if (w2c_i0) {
       w2c_j0 = 18446744073709551604ull;
-      w2c_l5 = w2c_j0;
+      w2c_l4 = w2c_j0;
       goto w2c_B1;
     }
-    w2c_i0 = w2c_l16;
+    w2c_i0 = w2c_l20;
     w2c_i1 = 255u;
     w2c_i0 &= w2c_i1;
     w2c_i1 = 1u;
@@ -88974,15 +89768,15 @@ static u64 w2c_dine_raw_site_take(Z_dine_ffi_instance_t* instance, u64 w2c_p0, u
       w2c_j0 += w2c_j1;
       w2c_i0 = (u32)(w2c_j0);
       w2c_j0 = i64_load(&instance->w2c_memory, (u64)(w2c_i0));
-      w2c_l10 = w2c_j0;
+      w2c_l12 = w2c_j0;
       w2c_j0 = w2c_p1;
-      w2c_j1 = 13ull;
+      w2c_j1 = 17ull;
       w2c_j0 += w2c_j1;
       w2c_i0 = (u32)(w2c_j0);
       w2c_i0 = i32_load(&instance->w2c_memory, (u64)(w2c_i0));
-      w2c_l20 = w2c_i0;
+      w2c_l22 = w2c_i0;
       w2c_j0 = w2c_p1;
-      w2c_j1 = 17ull;
+      w2c_j1 = 13ull;
       w2c_j0 += w2c_j1;
       w2c_i0 = (u32)(w2c_j0);
       w2c_i0 = i32_load(&instance->w2c_memory, (u64)(w2c_i0));
@@ -88995,31 +89789,31 @@ static u64 w2c_dine_raw_site_take(Z_dine_ffi_instance_t* instance, u64 w2c_p0, u
     w2c_i0 = 1u;
     w2c_i1 = 2u;
     w2c_i2 = 3u;
-    w2c_i3 = w2c_l16;
+    w2c_i3 = w2c_l20;
     w2c_i4 = 255u;
     w2c_i3 &= w2c_i4;
-    w2c_l16 = w2c_i3;
+    w2c_l20 = w2c_i3;
     w2c_i4 = 3u;
     w2c_i3 = w2c_i3 == w2c_i4;
     w2c_i1 = w2c_i3 ? w2c_i1 : w2c_i2;
-    w2c_i2 = w2c_l16;
+    w2c_i2 = w2c_l20;
     w2c_i3 = 2u;
     w2c_i2 = w2c_i2 == w2c_i3;
     w2c_i0 = w2c_i2 ? w2c_i0 : w2c_i1;
-    w2c_l18 = w2c_i0;
+    w2c_l23 = w2c_i0;
     w2c_i0 = 0u;
     w2c_B5:;
-    w2c_l19 = w2c_i0;
+    w2c_l26 = w2c_i0;
     w2c_j0 = 18446744073709551602ull;
-    w2c_l5 = w2c_j0;
-    w2c_j0 = w2c_l4;
+    w2c_l4 = w2c_j0;
+    w2c_j0 = w2c_l6;
     w2c_j1 = 24ull;
     w2c_j0 += w2c_j1;
-    w2c_l11 = w2c_j0;
+    w2c_l13 = w2c_j0;
     w2c_i0 = (u32)(w2c_j0);
     w2c_i0 = i32_load(&instance->w2c_memory, (u64)(w2c_i0));
-    w2c_l17 = w2c_i0;
-    w2c_j1 = w2c_l4;
+    w2c_l24 = w2c_i0;
+    w2c_j1 = w2c_l6;
     w2c_j2 = 8ull;
     w2c_j1 += w2c_j2;
     w2c_i1 = (u32)(w2c_j1);
@@ -89029,7 +89823,7 @@ static u64 w2c_dine_raw_site_take(Z_dine_ffi_instance_t* instance, u64 w2c_p0, u
     w2c_j1 += w2c_j2;
     w2c_i1 = (u32)(w2c_j1);
     w2c_i1 = i32_load(&instance->w2c_memory, (u64)(w2c_i1));
-    w2c_l21 = w2c_i1;
+    w2c_l25 = w2c_i1;
     w2c_i0 = w2c_i0 >= w2c_i1;
     if (w2c_i0) {goto w2c_B1;}
     w2c_j0 = w2c_l8;
@@ -89037,7 +89831,7 @@ static u64 w2c_dine_raw_site_take(Z_dine_ffi_instance_t* instance, u64 w2c_p0, u
     w2c_j0 += w2c_j1;
     w2c_i0 = (u32)(w2c_j0);
     w2c_j0 = i64_load(&instance->w2c_memory, (u64)(w2c_i0));
-    w2c_i1 = w2c_l17;
+    w2c_i1 = w2c_l24;
     w2c_j1 = (u64)(w2c_i1);
     w2c_j2 = 24ull;
     w2c_j1 *= w2c_j2;
@@ -89055,19 +89849,19 @@ static u64 w2c_dine_raw_site_take(Z_dine_ffi_instance_t* instance, u64 w2c_p0, u
     w2c_j0 += w2c_j1;
     w2c_i0 = (u32)(w2c_j0);
     w2c_i0 = i32_load(&instance->w2c_memory, (u64)(w2c_i0));
-    w2c_l15 = w2c_i0;
+    w2c_l21 = w2c_i0;
     w2c_j0 = w2c_p2;
     w2c_i0 = (u32)(w2c_j0);
     w2c_j0 = i64_load(&instance->w2c_memory, (u64)(w2c_i0));
     w2c_p2 = w2c_j0;
-    w2c_j0 = 51ull;
-    w2c_l6 = w2c_j0;
-    w2c_i0 = 0u;
-    w2c_l16 = w2c_i0;
     w2c_j0 = 0ull;
     w2c_p1 = w2c_j0;
+    w2c_j0 = 51ull;
+    w2c_l5 = w2c_j0;
+    w2c_i0 = 0u;
+    w2c_l20 = w2c_i0;
     w2c_L7: 
-      w2c_i0 = w2c_l15;
+      w2c_i0 = w2c_l21;
       w2c_j1 = w2c_p2;
       w2c_i1 = (u32)(w2c_j1);
       w2c_i1 = i32_load(&instance->w2c_memory, (u64)(w2c_i1));
@@ -89077,18 +89871,18 @@ static u64 w2c_dine_raw_site_take(Z_dine_ffi_instance_t* instance, u64 w2c_p0, u
         w2c_j1 = 4ull;
         w2c_j0 += w2c_j1;
         w2c_p2 = w2c_j0;
-        w2c_i0 = w2c_l16;
+        w2c_i0 = w2c_l20;
         w2c_i1 = 1u;
         w2c_i0 += w2c_i1;
-        w2c_l16 = w2c_i0;
-        w2c_j0 = w2c_l6;
+        w2c_l20 = w2c_i0;
+        w2c_j0 = w2c_l5;
         w2c_j1 = 56ull;
         w2c_j0 += w2c_j1;
-        w2c_l6 = w2c_j0;
-        w2c_j0 = w2c_l9;
+        w2c_l5 = w2c_j0;
+        w2c_j0 = w2c_l10;
         w2c_j1 = 16ull;
         w2c_j0 += w2c_j1;
-        w2c_l9 = w2c_j0;
+        w2c_l10 = w2c_j0;
         w2c_j0 = w2c_l7;
         w2c_j1 = w2c_p1;
         w2c_j2 = 1ull;
@@ -89102,16 +89896,16 @@ static u64 w2c_dine_raw_site_take(Z_dine_ffi_instance_t* instance, u64 w2c_p0, u
     w2c_j1 = 4294967295ull;
     w2c_i0 = w2c_j0 > w2c_j1;
     if (w2c_i0) {goto w2c_B1;}
-    w2c_i0 = w2c_l18;
+    w2c_i0 = w2c_l23;
     w2c_i1 = 1u;
     w2c_i0 -= w2c_i1;
     switch (w2c_i0) {
-      case 0: goto w2c_B12;
-      case 1: goto w2c_B11;
-      case 2: goto w2c_B10;
-      default: goto w2c_B13;
+      case 0: goto w2c_B11;
+      case 1: goto w2c_B10;
+      case 2: goto w2c_B9;
+      default: goto w2c_B12;
     }
-    w2c_B13:;
+    w2c_B12:;
     w2c_j0 = w2c_l3;
     w2c_i0 = (u32)(w2c_j0);
     w2c_j1 = 0ull;
@@ -89133,32 +89927,32 @@ static u64 w2c_dine_raw_site_take(Z_dine_ffi_instance_t* instance, u64 w2c_p0, u
     w2c_j1 = 0ull;
     i64_store(&instance->w2c_memory, (u64)(w2c_i0) + 16, w2c_j1);
     w2c_j0 = 18446744073709551612ull;
-    w2c_l5 = w2c_j0;
-    w2c_i0 = w2c_l16;
-    w2c_j1 = w2c_l4;
+    w2c_l4 = w2c_j0;
+    w2c_i0 = w2c_l20;
+    w2c_j1 = w2c_l6;
     w2c_j2 = 80ull;
     w2c_j1 += w2c_j2;
     w2c_i1 = (u32)(w2c_j1);
     w2c_i1 = i32_load(&instance->w2c_memory, (u64)(w2c_i1));
     w2c_i0 = w2c_i0 >= w2c_i1;
     if (w2c_i0) {goto w2c_B1;}
-    w2c_j0 = w2c_l4;
+    w2c_j0 = w2c_l6;
     w2c_j1 = 72ull;
     w2c_j0 += w2c_j1;
     w2c_i0 = (u32)(w2c_j0);
     w2c_j0 = i64_load(&instance->w2c_memory, (u64)(w2c_i0));
-    w2c_j1 = w2c_l6;
+    w2c_j1 = w2c_l5;
     w2c_j0 += w2c_j1;
     w2c_p2 = w2c_j0;
     w2c_i0 = (u32)(w2c_j0);
     w2c_i0 = i32_load8_u(&instance->w2c_memory, (u64)(w2c_i0));
     if (w2c_i0) {
       w2c_j0 = 18446744073709551595ull;
-      w2c_l5 = w2c_j0;
+      w2c_l4 = w2c_j0;
       goto w2c_B1;
     }
     w2c_j0 = 18446744073709551593ull;
-    w2c_l5 = w2c_j0;
+    w2c_l4 = w2c_j0;
     w2c_j0 = w2c_p2;
     w2c_j1 = 27ull;
     w2c_j0 -= w2c_j1;
@@ -89180,16 +89974,16 @@ static u64 w2c_dine_raw_site_take(Z_dine_ffi_instance_t* instance, u64 w2c_p0, u
     w2c_i0 = i32_load8_u(&instance->w2c_memory, (u64)(w2c_i0));
     w2c_i1 = 1u;
     w2c_i0 = w2c_i0 != w2c_i1;
-    if (w2c_i0) {goto w2c_B15;}
+    if (w2c_i0) {goto w2c_B14;}
     w2c_j0 = 18446744073709551592ull;
-    w2c_l5 = w2c_j0;
-    w2c_i0 = w2c_l17;
+    w2c_l4 = w2c_j0;
+    w2c_i0 = w2c_l24;
     w2c_j1 = w2c_p2;
     w2c_j2 = 47ull;
     w2c_j1 -= w2c_j2;
     w2c_i1 = (u32)(w2c_j1);
     w2c_i1 = i32_load(&instance->w2c_memory, (u64)(w2c_i1));
-    w2c_l15 = w2c_i1;
+    w2c_l20 = w2c_i1;
     w2c_i0 = w2c_i0 == w2c_i1;
     if (w2c_i0) {
       w2c_j0 = w2c_p2;
@@ -89197,10 +89991,10 @@ static u64 w2c_dine_raw_site_take(Z_dine_ffi_instance_t* instance, u64 w2c_p0, u
       w2c_j0 -= w2c_j1;
       w2c_i0 = (u32)(w2c_j0);
       w2c_i0 = i32_load(&instance->w2c_memory, (u64)(w2c_i0));
-      w2c_l15 = w2c_i0;
+      w2c_l20 = w2c_i0;
     }
-    w2c_i0 = w2c_l15;
-    w2c_i1 = w2c_l21;
+    w2c_i0 = w2c_l20;
+    w2c_i1 = w2c_l25;
     w2c_i0 = w2c_i0 >= w2c_i1;
     if (w2c_i0) {goto w2c_B1;}
     w2c_j0 = w2c_l8;
@@ -89208,29 +90002,35 @@ static u64 w2c_dine_raw_site_take(Z_dine_ffi_instance_t* instance, u64 w2c_p0, u
     w2c_j0 += w2c_j1;
     w2c_i0 = (u32)(w2c_j0);
     w2c_j0 = i64_load(&instance->w2c_memory, (u64)(w2c_i0));
-    w2c_i1 = w2c_l15;
+    w2c_i1 = w2c_l20;
     w2c_j1 = (u64)(w2c_i1);
     w2c_j2 = 56ull;
     w2c_j1 *= w2c_j2;
     w2c_j0 += w2c_j1;
     w2c_p2 = w2c_j0;
-    w2c_j1 = 48ull;
+    w2c_j1 = 52ull;
     w2c_j0 += w2c_j1;
     w2c_i0 = (u32)(w2c_j0);
     w2c_i0 = i32_load8_u(&instance->w2c_memory, (u64)(w2c_i0));
-    if (w2c_i0) {goto w2c_B15;}
-    w2c_i0 = w2c_l19;
+    if (w2c_i0) {goto w2c_B14;}
+    w2c_j0 = w2c_p2;
+    w2c_j1 = 48ull;
+    w2c_j0 += w2c_j1;
+    w2c_i0 = (u32)(w2c_j0);
+    w2c_i0 = i32_load(&instance->w2c_memory, (u64)(w2c_i0));
     w2c_j1 = w2c_p2;
     w2c_j2 = 32ull;
     w2c_j1 += w2c_j2;
     w2c_i1 = (u32)(w2c_j1);
     w2c_i1 = i32_load(&instance->w2c_memory, (u64)(w2c_i1));
+    w2c_i0 += w2c_i1;
+    w2c_i1 = w2c_l22;
     w2c_i0 = w2c_i0 != w2c_i1;
     if (w2c_i0) {goto w2c_B1;}
-    w2c_B15:;
+    w2c_B14:;
     w2c_j0 = 18446744073709551593ull;
-    w2c_l5 = w2c_j0;
-    w2c_j0 = w2c_l4;
+    w2c_l4 = w2c_j0;
+    w2c_j0 = w2c_l6;
     w2c_j1 = 216ull;
     w2c_j0 += w2c_j1;
     w2c_i0 = (u32)(w2c_j0);
@@ -89239,8 +90039,8 @@ static u64 w2c_dine_raw_site_take(Z_dine_ffi_instance_t* instance, u64 w2c_p0, u
     w2c_i0 = w2c_i0 == w2c_i1;
     if (w2c_i0) {goto w2c_B1;}
     w2c_j0 = 18446744073709551612ull;
-    w2c_l5 = w2c_j0;
-    w2c_j0 = w2c_l4;
+    w2c_l4 = w2c_j0;
+    w2c_j0 = w2c_l6;
     w2c_j1 = 264ull;
     w2c_j0 += w2c_j1;
     w2c_i0 = (u32)(w2c_j0);
@@ -89248,85 +90048,85 @@ static u64 w2c_dine_raw_site_take(Z_dine_ffi_instance_t* instance, u64 w2c_p0, u
     w2c_j1 = w2c_p1;
     w2c_i0 = w2c_j0 <= w2c_j1;
     if (w2c_i0) {goto w2c_B1;}
-    w2c_j0 = w2c_l4;
+    w2c_j0 = w2c_l6;
     w2c_j1 = 256ull;
     w2c_j0 += w2c_j1;
     w2c_i0 = (u32)(w2c_j0);
     w2c_j0 = i64_load(&instance->w2c_memory, (u64)(w2c_i0));
-    w2c_j1 = w2c_l9;
+    w2c_j1 = w2c_l10;
     w2c_j0 += w2c_j1;
-    w2c_l5 = w2c_j0;
+    w2c_l4 = w2c_j0;
     w2c_i0 = (u32)(w2c_j0);
     w2c_i0 = i32_load8_u(&instance->w2c_memory, (u64)(w2c_i0));
-    w2c_l15 = w2c_i0;
-    w2c_j0 = w2c_l5;
+    w2c_l20 = w2c_i0;
+    w2c_j0 = w2c_l4;
     w2c_i0 = (u32)(w2c_j0);
     w2c_j1 = 0ull;
     i64_store(&instance->w2c_memory, (u64)(w2c_i0), w2c_j1);
-    w2c_j0 = w2c_l5;
+    w2c_j0 = w2c_l4;
     w2c_j1 = 8ull;
     w2c_j0 += w2c_j1;
-    w2c_l5 = w2c_j0;
+    w2c_l4 = w2c_j0;
     w2c_i0 = (u32)(w2c_j0);
     w2c_j0 = i64_load(&instance->w2c_memory, (u64)(w2c_i0));
     w2c_p2 = w2c_j0;
-    w2c_j0 = w2c_l5;
+    w2c_j0 = w2c_l4;
     w2c_i0 = (u32)(w2c_j0);
     w2c_j1 = 0ull;
     i64_store(&instance->w2c_memory, (u64)(w2c_i0), w2c_j1);
-    w2c_i0 = w2c_l15;
+    w2c_i0 = w2c_l20;
     w2c_i1 = 1u;
     w2c_i0 = w2c_i0 != w2c_i1;
     if (w2c_i0) {
       w2c_j0 = 18446744073709551603ull;
-      w2c_l5 = w2c_j0;
+      w2c_l4 = w2c_j0;
       goto w2c_B1;
     }
     w2c_j0 = 18446744073709551603ull;
-    w2c_l5 = w2c_j0;
+    w2c_l4 = w2c_j0;
     w2c_j0 = w2c_p2;
     w2c_i0 = (u32)(w2c_j0);
     w2c_i0 = i32_load(&instance->w2c_memory, (u64)(w2c_i0));
-    w2c_l15 = w2c_i0;
+    w2c_l20 = w2c_i0;
     w2c_j1 = w2c_l8;
     w2c_j2 = 48ull;
     w2c_j1 += w2c_j2;
     w2c_i1 = (u32)(w2c_j1);
     w2c_i1 = i32_load(&instance->w2c_memory, (u64)(w2c_i1));
     w2c_i0 = w2c_i0 >= w2c_i1;
-    if (w2c_i0) {goto w2c_B19;}
+    if (w2c_i0) {goto w2c_B20;}
     w2c_j0 = w2c_p2;
     w2c_j1 = 4ull;
     w2c_j0 += w2c_j1;
     w2c_i0 = (u32)(w2c_j0);
     w2c_i0 = i32_load(&instance->w2c_memory, (u64)(w2c_i0));
-    w2c_l17 = w2c_i0;
+    w2c_l21 = w2c_i0;
     w2c_j1 = w2c_l8;
     w2c_j2 = 40ull;
     w2c_j1 += w2c_j2;
     w2c_i1 = (u32)(w2c_j1);
     w2c_j1 = i64_load(&instance->w2c_memory, (u64)(w2c_i1));
-    w2c_i2 = w2c_l15;
+    w2c_i2 = w2c_l20;
     w2c_j2 = (u64)(w2c_i2);
     w2c_j3 = 3ull;
     w2c_j2 <<= (w2c_j3 & 63);
     w2c_j1 += w2c_j2;
-    w2c_p1 = w2c_j1;
+    w2c_l5 = w2c_j1;
     w2c_i1 = (u32)(w2c_j1);
     w2c_i1 = i32_load(&instance->w2c_memory, (u64)(w2c_i1));
     w2c_i0 = w2c_i0 != w2c_i1;
-    if (w2c_i0) {goto w2c_B19;}
+    if (w2c_i0) {goto w2c_B20;}
     w2c_j0 = w2c_p2;
     w2c_j1 = 8ull;
     w2c_j0 += w2c_j1;
     w2c_i0 = (u32)(w2c_j0);
     w2c_i0 = i32_load(&instance->w2c_memory, (u64)(w2c_i0));
-    w2c_l15 = w2c_i0;
-    w2c_j1 = w2c_p1;
+    w2c_l20 = w2c_i0;
+    w2c_j1 = w2c_l5;
     w2c_i1 = (u32)(w2c_j1);
     w2c_i1 = i32_load(&instance->w2c_memory, (u64)(w2c_i1) + 4u);
     w2c_i0 = w2c_i0 != w2c_i1;
-    if (w2c_i0) {goto w2c_B19;}
+    if (w2c_i0) {goto w2c_B20;}
     w2c_j0 = w2c_p2;
     w2c_j1 = 12ull;
     w2c_j0 += w2c_j1;
@@ -89337,42 +90137,56 @@ static u64 w2c_dine_raw_site_take(Z_dine_ffi_instance_t* instance, u64 w2c_p0, u
     w2c_j1 += w2c_j2;
     w2c_i1 = (u32)(w2c_j1);
     w2c_j1 = i64_load(&instance->w2c_memory, (u64)(w2c_i1));
-    w2c_p1 = w2c_j1;
-    w2c_i2 = w2c_l17;
+    w2c_l7 = w2c_j1;
+    w2c_i2 = w2c_l21;
     w2c_j2 = (u64)(w2c_i2);
     w2c_j3 = 56ull;
     w2c_j2 *= w2c_j3;
     w2c_j1 += w2c_j2;
-    w2c_j2 = 32ull;
+    w2c_l5 = w2c_j1;
+    w2c_j2 = 48ull;
     w2c_j1 += w2c_j2;
     w2c_i1 = (u32)(w2c_j1);
     w2c_i1 = i32_load(&instance->w2c_memory, (u64)(w2c_i1));
+    w2c_j2 = w2c_l5;
+    w2c_j3 = 32ull;
+    w2c_j2 += w2c_j3;
+    w2c_i2 = (u32)(w2c_j2);
+    w2c_i2 = i32_load(&instance->w2c_memory, (u64)(w2c_i2));
+    w2c_i1 += w2c_i2;
     w2c_i0 = w2c_i0 != w2c_i1;
-    if (w2c_i0) {goto w2c_B19;}
+    if (w2c_i0) {goto w2c_B20;}
     w2c_j0 = w2c_p2;
     w2c_j1 = 12ull;
     w2c_j2 = 16ull;
-    w2c_i3 = w2c_l15;
-    w2c_i4 = w2c_l17;
+    w2c_i3 = w2c_l20;
+    w2c_i4 = w2c_l21;
     w2c_i3 = w2c_i3 == w2c_i4;
-    w2c_l18 = w2c_i3;
+    w2c_l24 = w2c_i3;
     w2c_j1 = w2c_i3 ? w2c_j1 : w2c_j2;
     w2c_j0 += w2c_j1;
     w2c_i0 = (u32)(w2c_j0);
     w2c_i0 = i32_load(&instance->w2c_memory, (u64)(w2c_i0));
-    w2c_j1 = w2c_p1;
-    w2c_i2 = w2c_l15;
+    w2c_j1 = w2c_l7;
+    w2c_i2 = w2c_l20;
     w2c_j2 = (u64)(w2c_i2);
     w2c_j3 = 56ull;
     w2c_j2 *= w2c_j3;
     w2c_j1 += w2c_j2;
-    w2c_j2 = 32ull;
+    w2c_l5 = w2c_j1;
+    w2c_j2 = 48ull;
     w2c_j1 += w2c_j2;
     w2c_i1 = (u32)(w2c_j1);
     w2c_i1 = i32_load(&instance->w2c_memory, (u64)(w2c_i1));
+    w2c_j2 = w2c_l5;
+    w2c_j3 = 32ull;
+    w2c_j2 += w2c_j3;
+    w2c_i2 = (u32)(w2c_j2);
+    w2c_i2 = i32_load(&instance->w2c_memory, (u64)(w2c_i2));
+    w2c_i1 += w2c_i2;
     w2c_i0 = w2c_i0 != w2c_i1;
-    if (w2c_i0) {goto w2c_B19;}
-    w2c_i0 = w2c_l19;
+    if (w2c_i0) {goto w2c_B20;}
+    w2c_i0 = w2c_l22;
     w2c_j1 = w2c_p2;
     w2c_j2 = 28ull;
     w2c_j3 = 32ull;
@@ -89381,18 +90195,18 @@ static u64 w2c_dine_raw_site_take(Z_dine_ffi_instance_t* instance, u64 w2c_p0, u
     w2c_j4 += w2c_j5;
     w2c_i4 = (u32)(w2c_j4);
     w2c_i4 = i32_load(&instance->w2c_memory, (u64)(w2c_i4));
-    w2c_l21 = w2c_i4;
-    w2c_i5 = w2c_l17;
+    w2c_l23 = w2c_i4;
+    w2c_i5 = w2c_l21;
     w2c_i4 = w2c_i4 == w2c_i5;
     w2c_j2 = w2c_i4 ? w2c_j2 : w2c_j3;
     w2c_j1 += w2c_j2;
     w2c_i1 = (u32)(w2c_j1);
     w2c_i1 = i32_load(&instance->w2c_memory, (u64)(w2c_i1));
-    w2c_l15 = w2c_i1;
+    w2c_l20 = w2c_i1;
     w2c_i0 = w2c_i0 < w2c_i1;
-    if (w2c_i0) {goto w2c_B19;}
-    w2c_i0 = w2c_l15;
-    w2c_i1 = w2c_l19;
+    if (w2c_i0) {goto w2c_B20;}
+    w2c_i0 = w2c_l20;
+    w2c_i1 = w2c_l22;
     w2c_i0 = w2c_i0 == w2c_i1;
     if (w2c_i0) {
       w2c_j0 = w2c_p2;
@@ -89403,34 +90217,34 @@ static u64 w2c_dine_raw_site_take(Z_dine_ffi_instance_t* instance, u64 w2c_p0, u
       w2c_i1 = 1u;
       w2c_i0 &= w2c_i1;
       w2c_i0 = !(w2c_i0);
-      if (w2c_i0) {goto w2c_B19;}
+      if (w2c_i0) {goto w2c_B20;}
     }
-    w2c_i0 = w2c_l19;
-    w2c_i1 = w2c_l15;
+    w2c_i0 = w2c_l22;
+    w2c_i1 = w2c_l20;
     w2c_i0 -= w2c_i1;
-    w2c_l22 = w2c_i0;
+    w2c_l25 = w2c_i0;
     w2c_j1 = w2c_p2;
     w2c_j2 = 16ull;
     w2c_j3 = 12ull;
-    w2c_i4 = w2c_l17;
-    w2c_i5 = w2c_l21;
+    w2c_i4 = w2c_l21;
+    w2c_i5 = w2c_l23;
     w2c_i4 = w2c_i4 != w2c_i5;
-    w2c_l17 = w2c_i4;
+    w2c_l21 = w2c_i4;
     w2c_j2 = w2c_i4 ? w2c_j2 : w2c_j3;
     w2c_j1 += w2c_j2;
     w2c_i1 = (u32)(w2c_j1);
     w2c_i1 = i32_load(&instance->w2c_memory, (u64)(w2c_i1));
-    w2c_i2 = w2c_l15;
+    w2c_i2 = w2c_l20;
     w2c_i1 -= w2c_i2;
     w2c_i0 = w2c_i0 > w2c_i1;
-    if (w2c_i0) {goto w2c_B19;}
+    if (w2c_i0) {goto w2c_B20;}
     w2c_j0 = w2c_p2;
     w2c_j1 = 28ull;
     w2c_j2 = 32ull;
-    w2c_i3 = w2c_l17;
-    w2c_i4 = w2c_l18;
+    w2c_i3 = w2c_l21;
+    w2c_i4 = w2c_l24;
     w2c_i3 |= w2c_i4;
-    w2c_l17 = w2c_i3;
+    w2c_l21 = w2c_i3;
     w2c_j1 = w2c_i3 ? w2c_j1 : w2c_j2;
     w2c_j0 += w2c_j1;
     w2c_i0 = (u32)(w2c_j0);
@@ -89438,244 +90252,325 @@ static u64 w2c_dine_raw_site_take(Z_dine_ffi_instance_t* instance, u64 w2c_p0, u
     w2c_j1 = w2c_p2;
     w2c_j2 = 12ull;
     w2c_j3 = 16ull;
-    w2c_i4 = w2c_l17;
+    w2c_i4 = w2c_l21;
     w2c_j2 = w2c_i4 ? w2c_j2 : w2c_j3;
     w2c_j1 += w2c_j2;
     w2c_i1 = (u32)(w2c_j1);
     w2c_i1 = i32_load(&instance->w2c_memory, (u64)(w2c_i1));
     w2c_i0 = w2c_i0 >= w2c_i1;
-    if (w2c_i0) {goto w2c_B19;}
-    w2c_i0 = w2c_l20;
-    w2c_i0 = !(w2c_i0);
-    if (w2c_i0) {goto w2c_B19;}
-    w2c_i0 = w2c_l20;
+    if (w2c_i0) {goto w2c_B20;}
+    w2c_i0 = w2c_l26;
     w2c_j1 = w2c_p2;
     w2c_j2 = 56ull;
     w2c_j1 += w2c_j2;
     w2c_i1 = (u32)(w2c_j1);
     w2c_i1 = i32_load(&instance->w2c_memory, (u64)(w2c_i1));
     w2c_i0 = w2c_i0 != w2c_i1;
-    if (w2c_i0) {goto w2c_B19;}
+    if (w2c_i0) {goto w2c_B20;}
     w2c_j0 = w2c_p2;
     w2c_j1 = 40ull;
     w2c_j0 += w2c_j1;
     w2c_i0 = (u32)(w2c_j0);
     w2c_j0 = i64_load(&instance->w2c_memory, (u64)(w2c_i0));
-    w2c_l6 = w2c_j0;
-    w2c_i0 = w2c_l15;
-    w2c_i1 = w2c_l19;
+    w2c_l5 = w2c_j0;
+    w2c_i0 = w2c_l20;
+    w2c_i1 = w2c_l22;
     w2c_i0 = w2c_i0 == w2c_i1;
-    w2c_l19 = w2c_i0;
-    if (w2c_i0) {goto w2c_B21;}
-    w2c_j0 = w2c_p1;
-    w2c_i1 = w2c_l21;
+    w2c_l24 = w2c_i0;
+    if (w2c_i0) {goto w2c_B22;}
+    w2c_j0 = w2c_l7;
+    w2c_i1 = w2c_l23;
     w2c_j1 = (u64)(w2c_i1);
     w2c_j2 = 56ull;
     w2c_j1 *= w2c_j2;
     w2c_j0 += w2c_j1;
+    w2c_l7 = w2c_j0;
+    w2c_j1 = 32ull;
+    w2c_j0 += w2c_j1;
+    w2c_i0 = (u32)(w2c_j0);
+    w2c_j0 = i64_load(&instance->w2c_memory, (u64)(w2c_i0));
+    w2c_l11 = w2c_j0;
+    w2c_j0 = w2c_l7;
     w2c_j1 = 24ull;
     w2c_j0 += w2c_j1;
     w2c_i0 = (u32)(w2c_j0);
     w2c_j0 = i64_load(&instance->w2c_memory, (u64)(w2c_i0));
-    w2c_p1 = w2c_j0;
-    w2c_i0 = w2c_l22;
+    w2c_l14 = w2c_j0;
+    w2c_i0 = w2c_l25;
     w2c_i1 = 1u;
     w2c_i0 = w2c_i0 == w2c_i1;
     if (w2c_i0) {
-      w2c_j0 = 0ull;
-      w2c_l7 = w2c_j0;
-      goto w2c_B22;
+      goto w2c_B23;
     }
-    w2c_i0 = w2c_l22;
+    w2c_i0 = w2c_l25;
     w2c_j0 = (u64)(w2c_i0);
     w2c_l7 = w2c_j0;
     w2c_j1 = 1ull;
     w2c_j0 &= w2c_j1;
-    w2c_l13 = w2c_j0;
+    w2c_l17 = w2c_j0;
     w2c_j0 = w2c_l7;
     w2c_j1 = 4294967294ull;
     w2c_j0 &= w2c_j1;
-    w2c_l14 = w2c_j0;
-    w2c_i0 = w2c_l15;
-    w2c_l17 = w2c_i0;
-    w2c_j0 = 0ull;
-    w2c_l7 = w2c_j0;
-    w2c_L24: 
+    w2c_l18 = w2c_j0;
+    w2c_i0 = w2c_l20;
+    w2c_l21 = w2c_i0;
+    w2c_L25: 
+      w2c_i0 = w2c_l21;
+      w2c_j0 = (u64)(w2c_i0);
+      w2c_l7 = w2c_j0;
+      w2c_j1 = w2c_l11;
+      w2c_i0 = w2c_j0 >= w2c_j1;
+      if (w2c_i0) {
+        w2c_j0 = 0ull;
+      } else {
+        w2c_j0 = 0ull;
+        w2c_j1 = w2c_l5;
+        w2c_j2 = w2c_l14;
+        w2c_j3 = w2c_l7;
+        w2c_j4 = 56ull;
+        w2c_j3 *= w2c_j4;
+        w2c_j2 += w2c_j3;
+        w2c_l7 = w2c_j2;
+        w2c_j3 = 40ull;
+        w2c_j2 += w2c_j3;
+        w2c_i2 = (u32)(w2c_j2);
+        w2c_i2 = i32_load8_u(&instance->w2c_memory, (u64)(w2c_i2));
+        w2c_j0 = w2c_i2 ? w2c_j0 : w2c_j1;
+        w2c_l5 = w2c_j0;
+        w2c_j0 = w2c_l7;
+        w2c_j1 = 48ull;
+        w2c_j0 += w2c_j1;
+        w2c_i0 = (u32)(w2c_j0);
+        w2c_j0 = i64_load(&instance->w2c_memory, (u64)(w2c_i0));
+      }
+      w2c_j1 = w2c_l5;
+      w2c_j0 += w2c_j1;
+      w2c_l5 = w2c_j0;
       w2c_j0 = 0ull;
-      w2c_j1 = 0ull;
-      w2c_j2 = w2c_l6;
-      w2c_j3 = w2c_p1;
-      w2c_i4 = w2c_l17;
-      w2c_j4 = (u64)(w2c_i4);
-      w2c_j5 = 56ull;
-      w2c_j4 *= w2c_j5;
-      w2c_j3 += w2c_j4;
-      w2c_l6 = w2c_j3;
-      w2c_j4 = 40ull;
-      w2c_j3 += w2c_j4;
-      w2c_i3 = (u32)(w2c_j3);
-      w2c_i3 = i32_load8_u(&instance->w2c_memory, (u64)(w2c_i3));
-      w2c_j1 = w2c_i3 ? w2c_j1 : w2c_j2;
-      w2c_j2 = w2c_l6;
-      w2c_j3 = 48ull;
-      w2c_j2 += w2c_j3;
-      w2c_i2 = (u32)(w2c_j2);
-      w2c_j2 = i64_load(&instance->w2c_memory, (u64)(w2c_i2));
+      w2c_l7 = w2c_j0;
+      w2c_i0 = w2c_l21;
+      w2c_i1 = 1u;
+      w2c_i0 += w2c_i1;
+      w2c_j0 = (u64)(w2c_i0);
+      w2c_l19 = w2c_j0;
+      w2c_j1 = w2c_l11;
+      w2c_i0 = w2c_j0 < w2c_j1;
+      if (w2c_i0) {
+        w2c_j0 = 0ull;
+        w2c_j1 = w2c_l5;
+        w2c_j2 = w2c_l14;
+        w2c_j3 = w2c_l19;
+        w2c_j4 = 56ull;
+        w2c_j3 *= w2c_j4;
+        w2c_j2 += w2c_j3;
+        w2c_l7 = w2c_j2;
+        w2c_j3 = 40ull;
+        w2c_j2 += w2c_j3;
+        w2c_i2 = (u32)(w2c_j2);
+        w2c_i2 = i32_load8_u(&instance->w2c_memory, (u64)(w2c_i2));
+        w2c_j0 = w2c_i2 ? w2c_j0 : w2c_j1;
+        w2c_l5 = w2c_j0;
+        w2c_j0 = w2c_l7;
+        w2c_j1 = 48ull;
+        w2c_j0 += w2c_j1;
+        w2c_i0 = (u32)(w2c_j0);
+        w2c_j0 = i64_load(&instance->w2c_memory, (u64)(w2c_i0));
+        w2c_l7 = w2c_j0;
+      }
+      w2c_i0 = w2c_l21;
+      w2c_i1 = 2u;
+      w2c_i0 += w2c_i1;
+      w2c_l21 = w2c_i0;
+      w2c_j0 = w2c_l5;
+      w2c_j1 = w2c_l7;
+      w2c_j0 += w2c_j1;
+      w2c_l5 = w2c_j0;
+      w2c_j0 = w2c_l18;
+      w2c_j1 = w2c_l9;
+      w2c_j2 = 2ull;
       w2c_j1 += w2c_j2;
-      w2c_j2 = w2c_p1;
-      w2c_i3 = w2c_l17;
-      w2c_i4 = 1u;
-      w2c_i3 += w2c_i4;
-      w2c_j3 = (u64)(w2c_i3);
+      w2c_l9 = w2c_j1;
+      w2c_i0 = w2c_j0 != w2c_j1;
+      if (w2c_i0) {goto w2c_L25;}
+    w2c_j0 = w2c_l17;
+    w2c_i0 = !(w2c_j0);
+    if (w2c_i0) {goto w2c_B22;}
+    w2c_B23:;
+    w2c_i0 = w2c_l20;
+    w2c_j1 = w2c_l9;
+    w2c_i1 = (u32)(w2c_j1);
+    w2c_i0 += w2c_i1;
+    w2c_j0 = (u64)(w2c_i0);
+    w2c_l7 = w2c_j0;
+    w2c_j1 = w2c_l11;
+    w2c_i0 = w2c_j0 < w2c_j1;
+    if (w2c_i0) {
+      w2c_j0 = 0ull;
+      w2c_j1 = w2c_l5;
+      w2c_j2 = w2c_l14;
+      w2c_j3 = w2c_l7;
       w2c_j4 = 56ull;
       w2c_j3 *= w2c_j4;
       w2c_j2 += w2c_j3;
-      w2c_l6 = w2c_j2;
+      w2c_l7 = w2c_j2;
       w2c_j3 = 40ull;
       w2c_j2 += w2c_j3;
       w2c_i2 = (u32)(w2c_j2);
       w2c_i2 = i32_load8_u(&instance->w2c_memory, (u64)(w2c_i2));
       w2c_j0 = w2c_i2 ? w2c_j0 : w2c_j1;
-      w2c_j1 = w2c_l6;
-      w2c_j2 = 48ull;
-      w2c_j1 += w2c_j2;
-      w2c_i1 = (u32)(w2c_j1);
-      w2c_j1 = i64_load(&instance->w2c_memory, (u64)(w2c_i1));
+      w2c_l5 = w2c_j0;
+      w2c_j0 = w2c_l7;
+      w2c_j1 = 48ull;
       w2c_j0 += w2c_j1;
-      w2c_l6 = w2c_j0;
-      w2c_i0 = w2c_l17;
-      w2c_i1 = 2u;
-      w2c_i0 += w2c_i1;
-      w2c_l17 = w2c_i0;
-      w2c_j0 = w2c_l14;
-      w2c_j1 = w2c_l7;
-      w2c_j2 = 2ull;
-      w2c_j1 += w2c_j2;
-      w2c_l7 = w2c_j1;
-      w2c_i0 = w2c_j0 != w2c_j1;
-      if (w2c_i0) {goto w2c_L24;}
-    w2c_j0 = w2c_l13;
-    w2c_i0 = !(w2c_j0);
-    if (w2c_i0) {goto w2c_B21;}
-    w2c_B22:;
-    w2c_j0 = 0ull;
-    w2c_j1 = w2c_l6;
-    w2c_j2 = w2c_p1;
-    w2c_i3 = w2c_l15;
-    w2c_j4 = w2c_l7;
-    w2c_i4 = (u32)(w2c_j4);
-    w2c_i3 += w2c_i4;
-    w2c_j3 = (u64)(w2c_i3);
-    w2c_j4 = 56ull;
-    w2c_j3 *= w2c_j4;
-    w2c_j2 += w2c_j3;
-    w2c_p1 = w2c_j2;
-    w2c_j3 = 40ull;
-    w2c_j2 += w2c_j3;
-    w2c_i2 = (u32)(w2c_j2);
-    w2c_i2 = i32_load8_u(&instance->w2c_memory, (u64)(w2c_i2));
-    w2c_j0 = w2c_i2 ? w2c_j0 : w2c_j1;
-    w2c_j1 = w2c_p1;
-    w2c_j2 = 48ull;
-    w2c_j1 += w2c_j2;
-    w2c_i1 = (u32)(w2c_j1);
-    w2c_j1 = i64_load(&instance->w2c_memory, (u64)(w2c_i1));
+      w2c_i0 = (u32)(w2c_j0);
+      w2c_j0 = i64_load(&instance->w2c_memory, (u64)(w2c_i0));
+      w2c_l15 = w2c_j0;
+    }
+    w2c_j0 = w2c_l5;
+    w2c_j1 = w2c_l15;
     w2c_j0 += w2c_j1;
-    w2c_l6 = w2c_j0;
-    w2c_B21:;
-    w2c_j0 = w2c_l6;
-    w2c_j1 = w2c_l10;
+    w2c_l5 = w2c_j0;
+    w2c_B22:;
+    w2c_j0 = w2c_l5;
+    w2c_j1 = w2c_l12;
     w2c_i0 = w2c_j0 != w2c_j1;
-    if (w2c_i0) {goto w2c_B19;}
+    if (w2c_i0) {goto w2c_B20;}
     w2c_j0 = w2c_l3;
     w2c_j1 = 8ull;
-    w2c_f136(instance, w2c_j0, w2c_j1);
+    w2c_f140(instance, w2c_j0, w2c_j1);
     w2c_j0 = w2c_l3;
     w2c_i0 = (u32)(w2c_j0);
     w2c_j0 = i64_load(&instance->w2c_memory, (u64)(w2c_i0));
     w2c_i0 = (u32)(w2c_j0);
     w2c_i1 = 1u;
     w2c_i0 &= w2c_i1;
-    w2c_l21 = w2c_i0;
+    w2c_l23 = w2c_i0;
     if (w2c_i0) {
       w2c_j0 = w2c_l3;
       w2c_i0 = (u32)(w2c_j0);
       w2c_j0 = i64_load(&instance->w2c_memory, (u64)(w2c_i0) + 8u);
-      w2c_l5 = w2c_j0;
+      w2c_l4 = w2c_j0;
+      w2c_j1 = 0ull;
+      w2c_i2 = w2c_l23;
+      w2c_j0 = w2c_i2 ? w2c_j0 : w2c_j1;
+      w2c_l9 = w2c_j0;
       w2c_j0 = w2c_p2;
       w2c_j1 = 20ull;
       w2c_j0 += w2c_j1;
       w2c_i0 = (u32)(w2c_j0);
       w2c_i0 = i32_load(&instance->w2c_memory, (u64)(w2c_i0));
-      w2c_l18 = w2c_i0;
+      w2c_l21 = w2c_i0;
       w2c_j1 = w2c_p2;
       w2c_j2 = 4ull;
       w2c_j1 += w2c_j2;
       w2c_i1 = (u32)(w2c_j1);
       w2c_i1 = i32_load(&instance->w2c_memory, (u64)(w2c_i1));
-      w2c_l23 = w2c_i1;
+      w2c_l26 = w2c_i1;
       w2c_i0 = w2c_i0 == w2c_i1;
-      w2c_l20 = w2c_i0;
+      w2c_l22 = w2c_i0;
       w2c_j0 = w2c_p2;
       w2c_j1 = 8ull;
       w2c_j0 += w2c_j1;
       w2c_i0 = (u32)(w2c_j0);
       w2c_i0 = i32_load(&instance->w2c_memory, (u64)(w2c_i0));
-      w2c_l24 = w2c_i0;
-      w2c_i0 = w2c_l19;
+      w2c_l27 = w2c_i0;
+      w2c_i0 = w2c_l24;
       w2c_i0 = !(w2c_i0);
       if (w2c_i0) {
         w2c_j0 = w2c_p2;
         w2c_j1 = 28ull;
         w2c_j2 = 32ull;
-        w2c_i3 = w2c_l20;
+        w2c_i3 = w2c_l22;
         w2c_j1 = w2c_i3 ? w2c_j1 : w2c_j2;
         w2c_j0 += w2c_j1;
         w2c_i0 = (u32)(w2c_j0);
         w2c_i0 = i32_load(&instance->w2c_memory, (u64)(w2c_i0));
-        w2c_l15 = w2c_i0;
-        w2c_i0 = w2c_l18;
+        w2c_l20 = w2c_i0;
+        w2c_i0 = w2c_l21;
         w2c_j0 = (u64)(w2c_i0);
         w2c_j1 = 56ull;
         w2c_j0 *= w2c_j1;
-        w2c_l10 = w2c_j0;
-        w2c_i0 = w2c_l22;
+        w2c_l12 = w2c_j0;
+        w2c_i0 = w2c_l25;
         w2c_j0 = (u64)(w2c_i0);
-        w2c_p1 = w2c_j0;
+        w2c_l5 = w2c_j0;
         w2c_j0 = w2c_l8;
         w2c_j1 = 16ull;
         w2c_j0 += w2c_j1;
-        w2c_l8 = w2c_j0;
-        w2c_L27: 
-          w2c_j0 = w2c_l8;
-          w2c_i0 = (u32)(w2c_j0);
-          w2c_j0 = i64_load(&instance->w2c_memory, (u64)(w2c_i0));
-          w2c_j1 = w2c_l10;
-          w2c_j0 += w2c_j1;
+        w2c_l11 = w2c_j0;
+        w2c_L31: 
+          w2c_i0 = w2c_l20;
+          w2c_j0 = (u64)(w2c_i0);
+          w2c_l8 = w2c_j0;
+          w2c_j1 = w2c_l11;
+          w2c_i1 = (u32)(w2c_j1);
+          w2c_j1 = i64_load(&instance->w2c_memory, (u64)(w2c_i1));
+          w2c_j2 = w2c_l12;
+          w2c_j1 += w2c_j2;
+          w2c_l7 = w2c_j1;
+          w2c_j2 = 32ull;
+          w2c_j1 += w2c_j2;
+          w2c_i1 = (u32)(w2c_j1);
+          w2c_j1 = i64_load(&instance->w2c_memory, (u64)(w2c_i1));
+          w2c_i0 = w2c_j0 >= w2c_j1;
+          if (w2c_i0) {
+            w2c_j0 = w2c_l4;
+            w2c_i0 = (u32)(w2c_j0);
+            w2c_j1 = w2c_p2;
+            i64_store(&instance->w2c_memory, (u64)(w2c_i0), w2c_j1);
+            w2c_j0 = 0ull;
+            w2c_l8 = w2c_j0;
+            w2c_j0 = w2c_p2;
+            w2c_j1 = 40ull;
+            w2c_j0 += w2c_j1;
+            w2c_i0 = (u32)(w2c_j0);
+            w2c_j0 = i64_load(&instance->w2c_memory, (u64)(w2c_i0));
+            goto w2c_B32;
+          }
+          w2c_j0 = w2c_l7;
           w2c_j1 = 24ull;
           w2c_j0 += w2c_j1;
           w2c_i0 = (u32)(w2c_j0);
           w2c_j0 = i64_load(&instance->w2c_memory, (u64)(w2c_i0));
-          w2c_i1 = w2c_l15;
-          w2c_j1 = (u64)(w2c_i1);
+          w2c_j1 = w2c_l8;
           w2c_j2 = 56ull;
           w2c_j1 *= w2c_j2;
           w2c_j0 += w2c_j1;
-          w2c_l6 = w2c_j0;
+          w2c_l7 = w2c_j0;
           w2c_j1 = 48ull;
           w2c_j0 += w2c_j1;
           w2c_i0 = (u32)(w2c_j0);
           w2c_j0 = i64_load(&instance->w2c_memory, (u64)(w2c_i0));
-          w2c_l7 = w2c_j0;
-          w2c_j0 = w2c_l6;
+          w2c_l8 = w2c_j0;
+          w2c_j0 = w2c_l7;
           w2c_j1 = 40ull;
           w2c_j0 += w2c_j1;
           w2c_i0 = (u32)(w2c_j0);
           w2c_i0 = i32_load8_u(&instance->w2c_memory, (u64)(w2c_i0));
-          w2c_l17 = w2c_i0;
-          w2c_j0 = w2c_l5;
+          w2c_l24 = w2c_i0;
+          w2c_j0 = w2c_l4;
           w2c_i0 = (u32)(w2c_j0);
           w2c_j1 = w2c_p2;
+          i64_store(&instance->w2c_memory, (u64)(w2c_i0), w2c_j1);
+          w2c_j0 = 0ull;
+          w2c_j1 = w2c_p2;
+          w2c_j2 = 40ull;
+          w2c_j1 += w2c_j2;
+          w2c_i1 = (u32)(w2c_j1);
+          w2c_j1 = i64_load(&instance->w2c_memory, (u64)(w2c_i1));
+          w2c_i2 = w2c_l24;
+          w2c_i3 = 255u;
+          w2c_i2 &= w2c_i3;
+          w2c_j0 = w2c_i2 ? w2c_j0 : w2c_j1;
+          w2c_B32:;
+          w2c_l7 = w2c_j0;
+          w2c_j0 = w2c_p2;
+          w2c_j1 = 40ull;
+          w2c_j0 += w2c_j1;
+          w2c_i0 = (u32)(w2c_j0);
+          w2c_j1 = w2c_l7;
+          w2c_j2 = w2c_l8;
+          w2c_j1 += w2c_j2;
           i64_store(&instance->w2c_memory, (u64)(w2c_i0), w2c_j1);
           w2c_j0 = w2c_p2;
           w2c_j1 = 24ull;
@@ -89684,23 +90579,9 @@ static u64 w2c_dine_raw_site_take(Z_dine_ffi_instance_t* instance, u64 w2c_p0, u
           w2c_i1 = 1u;
           i32_store8(&instance->w2c_memory, (u64)(w2c_i0), w2c_i1);
           w2c_j0 = w2c_p2;
-          w2c_j1 = 40ull;
-          w2c_j0 += w2c_j1;
-          w2c_l6 = w2c_j0;
-          w2c_i0 = (u32)(w2c_j0);
-          w2c_j1 = w2c_l7;
-          w2c_j2 = 0ull;
-          w2c_j3 = w2c_l6;
-          w2c_i3 = (u32)(w2c_j3);
-          w2c_j3 = i64_load(&instance->w2c_memory, (u64)(w2c_i3));
-          w2c_i4 = w2c_l17;
-          w2c_j2 = w2c_i4 ? w2c_j2 : w2c_j3;
-          w2c_j1 += w2c_j2;
-          i64_store(&instance->w2c_memory, (u64)(w2c_i0), w2c_j1);
-          w2c_j0 = w2c_p2;
           w2c_j1 = 28ull;
           w2c_j2 = 32ull;
-          w2c_i3 = w2c_l18;
+          w2c_i3 = w2c_l21;
           w2c_j4 = w2c_p2;
           w2c_j5 = 4ull;
           w2c_j4 += w2c_j5;
@@ -89710,10 +90591,10 @@ static u64 w2c_dine_raw_site_take(Z_dine_ffi_instance_t* instance, u64 w2c_p0, u
           w2c_j1 = w2c_i3 ? w2c_j1 : w2c_j2;
           w2c_j0 += w2c_j1;
           w2c_i0 = (u32)(w2c_j0);
-          w2c_i1 = w2c_l15;
+          w2c_i1 = w2c_l20;
           w2c_i2 = 1u;
           w2c_i1 += w2c_i2;
-          w2c_l15 = w2c_i1;
+          w2c_l20 = w2c_i1;
           i32_store(&instance->w2c_memory, (u64)(w2c_i0), w2c_i1);
           w2c_j0 = w2c_p2;
           w2c_j1 = 48ull;
@@ -89738,19 +90619,19 @@ static u64 w2c_dine_raw_site_take(Z_dine_ffi_instance_t* instance, u64 w2c_p0, u
           w2c_i2 = 1u;
           w2c_i1 += w2c_i2;
           i32_store(&instance->w2c_memory, (u64)(w2c_i0), w2c_i1);
-          w2c_j0 = w2c_l5;
+          w2c_j0 = w2c_l4;
           w2c_i0 = (u32)(w2c_j0);
           w2c_j0 = i64_load(&instance->w2c_memory, (u64)(w2c_i0));
           w2c_p2 = w2c_j0;
-          w2c_j0 = w2c_p1;
+          w2c_j0 = w2c_l5;
           w2c_j1 = 1ull;
           w2c_j0 -= w2c_j1;
-          w2c_p1 = w2c_j0;
+          w2c_l5 = w2c_j0;
           w2c_j1 = 0ull;
           w2c_i0 = w2c_j0 != w2c_j1;
-          if (w2c_i0) {goto w2c_L27;}
+          if (w2c_i0) {goto w2c_L31;}
       }
-      w2c_j0 = w2c_l5;
+      w2c_j0 = w2c_l9;
       w2c_leave(instance, w2c_j0);
       w2c_j0 = w2c_p2;
       w2c_j1 = 24ull;
@@ -89762,16 +90643,16 @@ static u64 w2c_dine_raw_site_take(Z_dine_ffi_instance_t* instance, u64 w2c_p0, u
       w2c_j1 = 20ull;
       w2c_j0 += w2c_j1;
       w2c_i0 = (u32)(w2c_j0);
-      w2c_i1 = w2c_l24;
-      w2c_i2 = w2c_l23;
-      w2c_i3 = w2c_l20;
+      w2c_i1 = w2c_l27;
+      w2c_i2 = w2c_l26;
+      w2c_i3 = w2c_l22;
       w2c_i1 = w2c_i3 ? w2c_i1 : w2c_i2;
-      w2c_l15 = w2c_i1;
+      w2c_l20 = w2c_i1;
       i32_store(&instance->w2c_memory, (u64)(w2c_i0), w2c_i1);
       w2c_j0 = w2c_p2;
       w2c_j1 = 28ull;
       w2c_j2 = 32ull;
-      w2c_i3 = w2c_l15;
+      w2c_i3 = w2c_l20;
       w2c_j4 = w2c_p2;
       w2c_j5 = 4ull;
       w2c_j4 += w2c_j5;
@@ -89782,7 +90663,7 @@ static u64 w2c_dine_raw_site_take(Z_dine_ffi_instance_t* instance, u64 w2c_p0, u
       w2c_j0 += w2c_j1;
       w2c_i0 = (u32)(w2c_j0);
       w2c_i0 = i32_load(&instance->w2c_memory, (u64)(w2c_i0));
-      w2c_l17 = w2c_i0;
+      w2c_l21 = w2c_i0;
       w2c_j0 = w2c_p2;
       w2c_j1 = 48ull;
       w2c_j0 += w2c_j1;
@@ -89791,84 +90672,85 @@ static u64 w2c_dine_raw_site_take(Z_dine_ffi_instance_t* instance, u64 w2c_p0, u
       w2c_j1 = w2c_p2;
       w2c_j2 = 56ull;
       w2c_j1 += w2c_j2;
-      w2c_p1 = w2c_j1;
+      w2c_l5 = w2c_j1;
       w2c_i1 = (u32)(w2c_j1);
       w2c_j1 = i64_load(&instance->w2c_memory, (u64)(w2c_i1));
-      w2c_l6 = w2c_j1;
+      w2c_l7 = w2c_j1;
       w2c_j2 = 12ull;
       w2c_j1 *= w2c_j2;
       w2c_j0 += w2c_j1;
-      w2c_l5 = w2c_j0;
+      w2c_l4 = w2c_j0;
       w2c_i0 = (u32)(w2c_j0);
       w2c_i1 = 0u;
       i32_store(&instance->w2c_memory, (u64)(w2c_i0) + 8, w2c_i1);
-      w2c_j0 = w2c_l5;
+      w2c_j0 = w2c_l4;
       w2c_i0 = (u32)(w2c_j0);
-      w2c_i1 = w2c_l15;
+      w2c_i1 = w2c_l20;
       i32_store(&instance->w2c_memory, (u64)(w2c_i0), w2c_i1);
-      w2c_j0 = w2c_l5;
+      w2c_j0 = w2c_l4;
       w2c_i0 = (u32)(w2c_j0);
-      w2c_i1 = w2c_l17;
+      w2c_i1 = w2c_l21;
       w2c_i2 = 1u;
       w2c_i1 += w2c_i2;
       i32_store(&instance->w2c_memory, (u64)(w2c_i0) + 4, w2c_i1);
-      w2c_j0 = w2c_p1;
+      w2c_j0 = w2c_l5;
       w2c_i0 = (u32)(w2c_j0);
-      w2c_j1 = w2c_l6;
+      w2c_j1 = w2c_l7;
       w2c_j2 = 1ull;
       w2c_j1 += w2c_j2;
       i64_store(&instance->w2c_memory, (u64)(w2c_i0), w2c_j1);
     }
     w2c_j0 = 18446744073709551611ull;
-    w2c_l5 = w2c_j0;
-    w2c_i0 = w2c_l21;
-    if (w2c_i0) {goto w2c_B18;}
-    w2c_B19:;
-    w2c_j0 = w2c_l4;
+    w2c_l4 = w2c_j0;
+    w2c_i0 = w2c_l23;
+    if (w2c_i0) {goto w2c_B19;}
+    w2c_B20:;
+    w2c_j0 = w2c_l6;
     w2c_j1 = 256ull;
     w2c_j0 += w2c_j1;
     w2c_i0 = (u32)(w2c_j0);
     w2c_j0 = i64_load(&instance->w2c_memory, (u64)(w2c_i0));
-    w2c_j1 = w2c_l9;
+    w2c_j1 = w2c_l10;
     w2c_j0 += w2c_j1;
-    w2c_l4 = w2c_j0;
+    w2c_l6 = w2c_j0;
     w2c_i0 = (u32)(w2c_j0);
     w2c_i0 = i32_load8_u(&instance->w2c_memory, (u64)(w2c_i0));
-    w2c_l16 = w2c_i0;
-    w2c_j0 = w2c_l4;
+    w2c_l20 = w2c_i0;
+    w2c_j0 = w2c_l6;
     w2c_i0 = (u32)(w2c_j0);
     w2c_j1 = 1ull;
     i64_store(&instance->w2c_memory, (u64)(w2c_i0), w2c_j1);
-    w2c_j0 = w2c_l4;
+    w2c_j0 = w2c_l6;
     w2c_j1 = 8ull;
     w2c_j0 += w2c_j1;
-    w2c_p1 = w2c_j0;
+    w2c_l5 = w2c_j0;
     w2c_i0 = (u32)(w2c_j0);
     w2c_j0 = i64_load(&instance->w2c_memory, (u64)(w2c_i0));
-    w2c_l4 = w2c_j0;
-    w2c_j0 = w2c_p1;
+    w2c_l6 = w2c_j0;
+    w2c_j0 = w2c_l5;
     w2c_i0 = (u32)(w2c_j0);
     w2c_j1 = w2c_p2;
     i64_store(&instance->w2c_memory, (u64)(w2c_i0), w2c_j1);
-    w2c_i0 = w2c_l16;
+    w2c_i0 = w2c_l20;
     w2c_i1 = 1u;
     w2c_i0 = w2c_i0 != w2c_i1;
     if (w2c_i0) {goto w2c_B1;}
-    w2c_j0 = w2c_l4;
+    w2c_j0 = w2c_l6;
     w2c_i0 = (u32)(w2c_j0);
     w2c_j0 = i64_load(&instance->w2c_memory, (u64)(w2c_i0) + 48u);
-    w2c_p1 = w2c_j0;
-    w2c_j0 = w2c_l4;
+    w2c_l5 = w2c_j0;
+    w2c_j0 = w2c_l6;
     w2c_i0 = (u32)(w2c_j0);
     w2c_j0 = i64_load(&instance->w2c_memory, (u64)(w2c_i0) + 64u);
     w2c_p2 = w2c_j0;
-    w2c_j0 = w2c_l4;
+    w2c_j0 = w2c_l6;
     w2c_leave(instance, w2c_j0);
     w2c_j0 = w2c_p2;
     w2c_i0 = !(w2c_j0);
-    if (w2c_i0) {goto w2c_B1;}
-    goto w2c_B9;
-    w2c_B18:;
+    w2c_i0 = !(w2c_i0);
+    if (w2c_i0) {goto w2c_B18;}
+    goto w2c_B1;
+    w2c_B19:;
     w2c_j0 = w2c_l3;
     w2c_i0 = (u32)(w2c_j0);
     w2c_j1 = w2c_p2;
@@ -89876,79 +90758,92 @@ static u64 w2c_dine_raw_site_take(Z_dine_ffi_instance_t* instance, u64 w2c_p0, u
     w2c_j0 = w2c_l3;
     w2c_j1 = 32ull;
     w2c_j0 += w2c_j1;
-    w2c_j1 = w2c_l11;
-    w2c_i2 = w2c_l16;
+    w2c_j1 = w2c_l13;
+    w2c_j2 = w2c_p1;
+    w2c_j3 = 4294967296ull;
+    w2c_j4 = w2c_p1;
+    w2c_j5 = 4294967296ull;
+    w2c_i4 = w2c_j4 < w2c_j5;
+    w2c_j2 = w2c_i4 ? w2c_j2 : w2c_j3;
+    w2c_i2 = (u32)(w2c_j2);
     w2c_j3 = w2c_l3;
     w2c_j4 = 16ull;
     w2c_j3 += w2c_j4;
-    w2c_f87(instance, w2c_j0, w2c_j1, w2c_i2, w2c_j3);
+    w2c_f88(instance, w2c_j0, w2c_j1, w2c_i2, w2c_j3);
     w2c_j0 = w2c_l3;
     w2c_i0 = (u32)(w2c_j0);
     w2c_i0 = i32_load8_u(&instance->w2c_memory, (u64)(w2c_i0) + 32u);
     w2c_i0 = !(w2c_i0);
     if (w2c_i0) {
-      w2c_j0 = 0ull;
-      w2c_l5 = w2c_j0;
+      w2c_j0 = w2c_p1;
+      w2c_l4 = w2c_j0;
       goto w2c_B1;
     }
     w2c_j0 = w2c_l3;
     w2c_i0 = (u32)(w2c_j0);
     w2c_j0 = i64_load(&instance->w2c_memory, (u64)(w2c_i0) + 56u);
-    w2c_l5 = w2c_j0;
+    w2c_l4 = w2c_j0;
     w2c_j0 = w2c_l3;
     w2c_i0 = (u32)(w2c_j0);
     w2c_i0 = i32_load8_u(&instance->w2c_memory, (u64)(w2c_i0) + 40u);
-    if (w2c_i0) {goto w2c_B1;}
-    w2c_j0 = w2c_l4;
+    if (w2c_i0) {goto w2c_B17;}
+    w2c_j0 = w2c_l6;
     w2c_j1 = 256ull;
     w2c_j0 += w2c_j1;
     w2c_i0 = (u32)(w2c_j0);
     w2c_j0 = i64_load(&instance->w2c_memory, (u64)(w2c_i0));
-    w2c_j1 = w2c_l9;
+    w2c_j1 = w2c_l10;
     w2c_j0 += w2c_j1;
-    w2c_l4 = w2c_j0;
+    w2c_l6 = w2c_j0;
     w2c_i0 = (u32)(w2c_j0);
     w2c_i0 = i32_load8_u(&instance->w2c_memory, (u64)(w2c_i0));
-    w2c_l16 = w2c_i0;
-    w2c_j0 = w2c_l4;
+    w2c_l20 = w2c_i0;
+    w2c_j0 = w2c_l6;
     w2c_i0 = (u32)(w2c_j0);
     w2c_j1 = 1ull;
     i64_store(&instance->w2c_memory, (u64)(w2c_i0), w2c_j1);
-    w2c_j0 = w2c_l4;
+    w2c_j0 = w2c_l6;
     w2c_j1 = 8ull;
     w2c_j0 += w2c_j1;
     w2c_p2 = w2c_j0;
     w2c_i0 = (u32)(w2c_j0);
     w2c_j0 = i64_load(&instance->w2c_memory, (u64)(w2c_i0));
-    w2c_l4 = w2c_j0;
+    w2c_l6 = w2c_j0;
     w2c_j0 = w2c_p2;
     w2c_i0 = (u32)(w2c_j0);
     w2c_j1 = w2c_l3;
     w2c_i1 = (u32)(w2c_j1);
     w2c_j1 = i64_load(&instance->w2c_memory, (u64)(w2c_i1) + 48u);
     i64_store(&instance->w2c_memory, (u64)(w2c_i0), w2c_j1);
-    w2c_i0 = w2c_l16;
+    w2c_i0 = w2c_l20;
     w2c_i1 = 1u;
     w2c_i0 = w2c_i0 != w2c_i1;
-    if (w2c_i0) {goto w2c_B1;}
-    w2c_j0 = w2c_l4;
+    if (w2c_i0) {goto w2c_B17;}
+    w2c_j0 = w2c_l6;
     w2c_i0 = (u32)(w2c_j0);
     w2c_j0 = i64_load(&instance->w2c_memory, (u64)(w2c_i0) + 48u);
-    w2c_p1 = w2c_j0;
-    w2c_j0 = w2c_l4;
+    w2c_l5 = w2c_j0;
+    w2c_j0 = w2c_l6;
     w2c_i0 = (u32)(w2c_j0);
     w2c_j0 = i64_load(&instance->w2c_memory, (u64)(w2c_i0) + 64u);
     w2c_p2 = w2c_j0;
-    w2c_j0 = w2c_l4;
+    w2c_j0 = w2c_l6;
     w2c_leave(instance, w2c_j0);
     w2c_j0 = w2c_p2;
-    w2c_j1 = 0ull;
-    w2c_i0 = w2c_j0 != w2c_j1;
-    if (w2c_i0) {goto w2c_B9;}
+    w2c_i0 = !(w2c_j0);
+    if (w2c_i0) {goto w2c_B17;}
+    w2c_B18:;
+    w2c_j0 = w2c_l5;
+    w2c_leave(instance, w2c_j0);
+    w2c_B17:;
+    w2c_j0 = w2c_p1;
+    w2c_j1 = w2c_l4;
+    w2c_j2 = w2c_l4;
+    w2c_i2 = !(w2c_j2);
+    w2c_j0 = w2c_i2 ? w2c_j0 : w2c_j1;
+    w2c_l4 = w2c_j0;
     goto w2c_B1;
-    w2c_B12:;
-    w2c_j0 = 0ull;
-    w2c_l5 = w2c_j0;
+    w2c_B11:;
     w2c_j0 = w2c_l3;
     w2c_i0 = (u32)(w2c_j0);
     w2c_j1 = 0ull;
@@ -89971,7 +90866,7 @@ static u64 w2c_dine_raw_site_take(Z_dine_ffi_instance_t* instance, u64 w2c_p0, u
     i64_store(&instance->w2c_memory, (u64)(w2c_i0) + 24, w2c_j1);
     w2c_j0 = w2c_l3;
     w2c_i0 = (u32)(w2c_j0);
-    w2c_i1 = w2c_l15;
+    w2c_i1 = w2c_l21;
     i32_store(&instance->w2c_memory, (u64)(w2c_i0) + 20, w2c_i1);
     w2c_j0 = w2c_l3;
     w2c_i0 = (u32)(w2c_j0);
@@ -89980,52 +90875,61 @@ static u64 w2c_dine_raw_site_take(Z_dine_ffi_instance_t* instance, u64 w2c_p0, u
     w2c_j0 = w2c_l3;
     w2c_j1 = 32ull;
     w2c_j0 += w2c_j1;
-    w2c_j1 = w2c_l11;
-    w2c_i2 = w2c_l16;
+    w2c_j1 = w2c_l13;
+    w2c_i2 = w2c_l20;
     w2c_j3 = w2c_l3;
     w2c_j4 = 16ull;
     w2c_j3 += w2c_j4;
-    w2c_f87(instance, w2c_j0, w2c_j1, w2c_i2, w2c_j3);
+    w2c_f88(instance, w2c_j0, w2c_j1, w2c_i2, w2c_j3);
     w2c_j0 = w2c_l3;
     w2c_i0 = (u32)(w2c_j0);
     w2c_i0 = i32_load8_u(&instance->w2c_memory, (u64)(w2c_i0) + 32u);
-    w2c_l16 = w2c_i0;
+    w2c_l20 = w2c_i0;
     w2c_i0 = !(w2c_i0);
-    if (w2c_i0) {goto w2c_B1;}
+    if (w2c_i0) {
+      w2c_j0 = w2c_p1;
+      w2c_l4 = w2c_j0;
+      goto w2c_B1;
+    }
     w2c_j0 = w2c_l3;
     w2c_i0 = (u32)(w2c_j0);
     w2c_j0 = i64_load(&instance->w2c_memory, (u64)(w2c_i0) + 56u);
-    w2c_l5 = w2c_j0;
-    w2c_i0 = w2c_l16;
+    w2c_l4 = w2c_j0;
+    w2c_i0 = w2c_l20;
     w2c_i1 = 1u;
     w2c_i0 = w2c_i0 != w2c_i1;
-    if (w2c_i0) {goto w2c_B1;}
+    if (w2c_i0) {goto w2c_B36;}
     w2c_j0 = w2c_l3;
     w2c_i0 = (u32)(w2c_j0);
     w2c_i0 = i32_load8_u(&instance->w2c_memory, (u64)(w2c_i0) + 40u);
-    if (w2c_i0) {goto w2c_B1;}
+    if (w2c_i0) {goto w2c_B36;}
     w2c_j0 = w2c_l3;
     w2c_i0 = (u32)(w2c_j0);
     w2c_j0 = i64_load(&instance->w2c_memory, (u64)(w2c_i0) + 48u);
-    w2c_l4 = w2c_j0;
+    w2c_l6 = w2c_j0;
     w2c_i0 = (u32)(w2c_j0);
     w2c_j0 = i64_load(&instance->w2c_memory, (u64)(w2c_i0) + 48u);
-    w2c_p1 = w2c_j0;
-    w2c_j0 = w2c_l4;
+    w2c_l5 = w2c_j0;
+    w2c_j0 = w2c_l6;
     w2c_i0 = (u32)(w2c_j0);
     w2c_j0 = i64_load(&instance->w2c_memory, (u64)(w2c_i0) + 64u);
     w2c_p2 = w2c_j0;
-    w2c_j0 = w2c_l4;
+    w2c_j0 = w2c_l6;
     w2c_leave(instance, w2c_j0);
     w2c_j0 = w2c_p2;
     w2c_i0 = !(w2c_j0);
-    if (w2c_i0) {goto w2c_B1;}
-    w2c_j0 = w2c_p1;
+    if (w2c_i0) {goto w2c_B36;}
+    w2c_j0 = w2c_l5;
     w2c_leave(instance, w2c_j0);
+    w2c_B36:;
+    w2c_j0 = w2c_p1;
+    w2c_j1 = w2c_l4;
+    w2c_j2 = w2c_l4;
+    w2c_i2 = !(w2c_j2);
+    w2c_j0 = w2c_i2 ? w2c_j0 : w2c_j1;
+    w2c_l4 = w2c_j0;
     goto w2c_B1;
-    w2c_B11:;
-    w2c_j0 = 0ull;
-    w2c_l5 = w2c_j0;
+    w2c_B10:;
     w2c_j0 = w2c_l3;
     w2c_i0 = (u32)(w2c_j0);
     w2c_j1 = 0ull;
@@ -90053,52 +90957,61 @@ static u64 w2c_dine_raw_site_take(Z_dine_ffi_instance_t* instance, u64 w2c_p0, u
     w2c_j0 = w2c_l3;
     w2c_j1 = 32ull;
     w2c_j0 += w2c_j1;
-    w2c_j1 = w2c_l11;
-    w2c_i2 = w2c_l16;
+    w2c_j1 = w2c_l13;
+    w2c_i2 = w2c_l20;
     w2c_j3 = w2c_l3;
     w2c_j4 = 16ull;
     w2c_j3 += w2c_j4;
-    w2c_f87(instance, w2c_j0, w2c_j1, w2c_i2, w2c_j3);
+    w2c_f88(instance, w2c_j0, w2c_j1, w2c_i2, w2c_j3);
     w2c_j0 = w2c_l3;
     w2c_i0 = (u32)(w2c_j0);
     w2c_i0 = i32_load8_u(&instance->w2c_memory, (u64)(w2c_i0) + 32u);
-    w2c_l16 = w2c_i0;
+    w2c_l20 = w2c_i0;
     w2c_i0 = !(w2c_i0);
-    if (w2c_i0) {goto w2c_B1;}
+    if (w2c_i0) {
+      w2c_j0 = w2c_p1;
+      w2c_l4 = w2c_j0;
+      goto w2c_B1;
+    }
     w2c_j0 = w2c_l3;
     w2c_i0 = (u32)(w2c_j0);
     w2c_j0 = i64_load(&instance->w2c_memory, (u64)(w2c_i0) + 56u);
-    w2c_l5 = w2c_j0;
-    w2c_i0 = w2c_l16;
+    w2c_l4 = w2c_j0;
+    w2c_i0 = w2c_l20;
     w2c_i1 = 1u;
     w2c_i0 = w2c_i0 != w2c_i1;
-    if (w2c_i0) {goto w2c_B1;}
+    if (w2c_i0) {goto w2c_B38;}
     w2c_j0 = w2c_l3;
     w2c_i0 = (u32)(w2c_j0);
     w2c_i0 = i32_load8_u(&instance->w2c_memory, (u64)(w2c_i0) + 40u);
-    if (w2c_i0) {goto w2c_B1;}
+    if (w2c_i0) {goto w2c_B38;}
     w2c_j0 = w2c_l3;
     w2c_i0 = (u32)(w2c_j0);
     w2c_j0 = i64_load(&instance->w2c_memory, (u64)(w2c_i0) + 48u);
-    w2c_l4 = w2c_j0;
+    w2c_l6 = w2c_j0;
     w2c_i0 = (u32)(w2c_j0);
     w2c_j0 = i64_load(&instance->w2c_memory, (u64)(w2c_i0) + 48u);
-    w2c_p1 = w2c_j0;
-    w2c_j0 = w2c_l4;
+    w2c_l5 = w2c_j0;
+    w2c_j0 = w2c_l6;
     w2c_i0 = (u32)(w2c_j0);
     w2c_j0 = i64_load(&instance->w2c_memory, (u64)(w2c_i0) + 64u);
     w2c_p2 = w2c_j0;
-    w2c_j0 = w2c_l4;
+    w2c_j0 = w2c_l6;
     w2c_leave(instance, w2c_j0);
     w2c_j0 = w2c_p2;
     w2c_i0 = !(w2c_j0);
-    if (w2c_i0) {goto w2c_B1;}
-    w2c_j0 = w2c_p1;
+    if (w2c_i0) {goto w2c_B38;}
+    w2c_j0 = w2c_l5;
     w2c_leave(instance, w2c_j0);
+    w2c_B38:;
+    w2c_j0 = w2c_p1;
+    w2c_j1 = w2c_l4;
+    w2c_j2 = w2c_l4;
+    w2c_i2 = !(w2c_j2);
+    w2c_j0 = w2c_i2 ? w2c_j0 : w2c_j1;
+    w2c_l4 = w2c_j0;
     goto w2c_B1;
-    w2c_B10:;
-    w2c_j0 = 0ull;
-    w2c_l5 = w2c_j0;
+    w2c_B9:;
     w2c_j0 = w2c_l3;
     w2c_i0 = (u32)(w2c_j0);
     w2c_j1 = 0ull;
@@ -90126,52 +91039,59 @@ static u64 w2c_dine_raw_site_take(Z_dine_ffi_instance_t* instance, u64 w2c_p0, u
     w2c_j0 = w2c_l3;
     w2c_j1 = 32ull;
     w2c_j0 += w2c_j1;
-    w2c_j1 = w2c_l11;
-    w2c_i2 = w2c_l16;
+    w2c_j1 = w2c_l13;
+    w2c_i2 = w2c_l20;
     w2c_j3 = w2c_l3;
     w2c_j4 = 16ull;
     w2c_j3 += w2c_j4;
-    w2c_f87(instance, w2c_j0, w2c_j1, w2c_i2, w2c_j3);
+    w2c_f88(instance, w2c_j0, w2c_j1, w2c_i2, w2c_j3);
     w2c_j0 = w2c_l3;
     w2c_i0 = (u32)(w2c_j0);
     w2c_i0 = i32_load8_u(&instance->w2c_memory, (u64)(w2c_i0) + 32u);
-    w2c_l16 = w2c_i0;
+    w2c_l20 = w2c_i0;
     w2c_i0 = !(w2c_i0);
-    if (w2c_i0) {goto w2c_B1;}
+    if (w2c_i0) {
+      w2c_j0 = w2c_p1;
+      w2c_l4 = w2c_j0;
+      goto w2c_B1;
+    }
     w2c_j0 = w2c_l3;
     w2c_i0 = (u32)(w2c_j0);
     w2c_j0 = i64_load(&instance->w2c_memory, (u64)(w2c_i0) + 56u);
-    w2c_l5 = w2c_j0;
-    w2c_i0 = w2c_l16;
+    w2c_l4 = w2c_j0;
+    w2c_i0 = w2c_l20;
     w2c_i1 = 1u;
     w2c_i0 = w2c_i0 != w2c_i1;
-    if (w2c_i0) {goto w2c_B1;}
+    if (w2c_i0) {goto w2c_B40;}
     w2c_j0 = w2c_l3;
     w2c_i0 = (u32)(w2c_j0);
     w2c_i0 = i32_load8_u(&instance->w2c_memory, (u64)(w2c_i0) + 40u);
-    if (w2c_i0) {goto w2c_B1;}
+    if (w2c_i0) {goto w2c_B40;}
     w2c_j0 = w2c_l3;
     w2c_i0 = (u32)(w2c_j0);
     w2c_j0 = i64_load(&instance->w2c_memory, (u64)(w2c_i0) + 48u);
-    w2c_l4 = w2c_j0;
+    w2c_l6 = w2c_j0;
     w2c_i0 = (u32)(w2c_j0);
     w2c_j0 = i64_load(&instance->w2c_memory, (u64)(w2c_i0) + 48u);
-    w2c_p1 = w2c_j0;
-    w2c_j0 = w2c_l4;
+    w2c_l5 = w2c_j0;
+    w2c_j0 = w2c_l6;
     w2c_i0 = (u32)(w2c_j0);
     w2c_j0 = i64_load(&instance->w2c_memory, (u64)(w2c_i0) + 64u);
     w2c_p2 = w2c_j0;
-    w2c_j0 = w2c_l4;
+    w2c_j0 = w2c_l6;
     w2c_leave(instance, w2c_j0);
     w2c_j0 = w2c_p2;
     w2c_i0 = !(w2c_j0);
-    if (w2c_i0) {goto w2c_B1;}
-    w2c_j0 = w2c_p1;
+    if (w2c_i0) {goto w2c_B40;}
+    w2c_j0 = w2c_l5;
     w2c_leave(instance, w2c_j0);
-    goto w2c_B1;
-    w2c_B9:;
+    w2c_B40:;
     w2c_j0 = w2c_p1;
-    w2c_leave(instance, w2c_j0);
+    w2c_j1 = w2c_l4;
+    w2c_j2 = w2c_l4;
+    w2c_i2 = !(w2c_j2);
+    w2c_j0 = w2c_i2 ? w2c_j0 : w2c_j1;
+    w2c_l4 = w2c_j0;
     w2c_B1:;
     w2c_j0 = w2c_p0;
     w2c_i0 = (u32)(w2c_j0);
@@ -90179,14 +91099,14 @@ static u64 w2c_dine_raw_site_take(Z_dine_ffi_instance_t* instance, u64 w2c_p0, u
     i64_store(&instance->w2c_memory, (u64)(w2c_i0) + 8, w2c_j1);
     w2c_j0 = w2c_p0;
     w2c_i0 = (u32)(w2c_j0);
-    w2c_j1 = w2c_l12;
+    w2c_j1 = w2c_l16;
     i64_store(&instance->w2c_memory, (u64)(w2c_i0), w2c_j1);
   }
   w2c_j0 = w2c_l3;
   w2c_j1 = 18446744073709551552ull;
   w2c_j0 -= w2c_j1;
   instance->w2c_g0 = w2c_j0;
-  w2c_j0 = w2c_l5;
+  w2c_j0 = w2c_l4;
   FUNC_EPILOGUE;
   return w2c_j0;
 }
@@ -90225,7 +91145,7 @@ static u64 w2c_dine_raw_site_fork(Z_dine_ffi_instance_t* instance, u64 w2c_p0, u
     w2c_i3 = 1701734756u;
     w2c_i2 = w2c_i2 == w2c_i3;
     w2c_j0 = w2c_i2 ? w2c_j0 : w2c_j1;
-    w2c_l8 = w2c_j0;
+    w2c_l9 = w2c_j0;
     w2c_j0 = w2c_l4;
     w2c_i0 = (u32)(w2c_j0);
     w2c_i0 = i32_load8_u(&instance->w2c_memory, (u64)(w2c_i0));
@@ -90267,13 +91187,13 @@ static u64 w2c_dine_raw_site_fork(Z_dine_ffi_instance_t* instance, u64 w2c_p0, u
     w2c_j0 = w2c_l4;
     w2c_j1 = 32ull;
     w2c_j0 += w2c_j1;
-    w2c_l9 = w2c_j0;
+    w2c_l10 = w2c_j0;
     w2c_i0 = (u32)(w2c_j0);
     w2c_j0 = i64_load(&instance->w2c_memory, (u64)(w2c_i0));
     w2c_j1 = 56ull;
     w2c_j0 += w2c_j1;
     w2c_i0 = (u32)(w2c_j0);
-    w2c_j0 = i64_load32_u(&instance->w2c_memory, (u64)(w2c_i0));
+    w2c_j0 = i64_load(&instance->w2c_memory, (u64)(w2c_i0));
     w2c_l5 = w2c_j0;
     w2c_i0 = !(w2c_j0);
     if (w2c_i0) {
@@ -90289,16 +91209,14 @@ static u64 w2c_dine_raw_site_fork(Z_dine_ffi_instance_t* instance, u64 w2c_p0, u
     w2c_j1 = w2c_i3 ? w2c_j1 : w2c_j2;
     w2c_j0 += w2c_j1;
     w2c_l6 = w2c_j0;
-    w2c_j0 = w2c_l5;
-    w2c_j1 = 12ull;
-    w2c_j0 *= w2c_j1;
-    w2c_l10 = w2c_j0;
-    w2c_j0 = 0ull;
-    w2c_p2 = w2c_j0;
     w2c_j0 = 2ull;
     w2c_l4 = w2c_j0;
+    w2c_j0 = 0ull;
+    w2c_p2 = w2c_j0;
+    w2c_j0 = w2c_l5;
+    w2c_l7 = w2c_j0;
     w2c_L4: 
-      w2c_j0 = w2c_l9;
+      w2c_j0 = w2c_l10;
       w2c_i0 = (u32)(w2c_j0);
       w2c_j0 = i64_load(&instance->w2c_memory, (u64)(w2c_i0));
       w2c_j1 = 48ull;
@@ -90307,13 +91225,13 @@ static u64 w2c_dine_raw_site_fork(Z_dine_ffi_instance_t* instance, u64 w2c_p0, u
       w2c_j0 = i64_load(&instance->w2c_memory, (u64)(w2c_i0));
       w2c_j1 = w2c_p2;
       w2c_j0 += w2c_j1;
-      w2c_l7 = w2c_j0;
+      w2c_l8 = w2c_j0;
       w2c_j1 = 8ull;
       w2c_j0 += w2c_j1;
       w2c_i0 = (u32)(w2c_j0);
       w2c_i0 = i32_load(&instance->w2c_memory, (u64)(w2c_i0));
       w2c_l11 = w2c_i0;
-      w2c_j0 = w2c_l7;
+      w2c_j0 = w2c_l8;
       w2c_j1 = 4ull;
       w2c_j0 += w2c_j1;
       w2c_i0 = (u32)(w2c_j0);
@@ -90329,7 +91247,7 @@ static u64 w2c_dine_raw_site_fork(Z_dine_ffi_instance_t* instance, u64 w2c_p0, u
         w2c_j1 = w2c_l6;
         w2c_j0 += w2c_j1;
         w2c_i0 = (u32)(w2c_j0);
-        w2c_j1 = w2c_l7;
+        w2c_j1 = w2c_l8;
         w2c_i1 = (u32)(w2c_j1);
         w2c_i1 = i32_load(&instance->w2c_memory, (u64)(w2c_i1));
         i32_store(&instance->w2c_memory, (u64)(w2c_i0), w2c_i1);
@@ -90366,11 +91284,15 @@ static u64 w2c_dine_raw_site_fork(Z_dine_ffi_instance_t* instance, u64 w2c_p0, u
       w2c_j1 = 3ull;
       w2c_j0 += w2c_j1;
       w2c_l4 = w2c_j0;
-      w2c_j0 = w2c_l10;
-      w2c_j1 = w2c_p2;
-      w2c_j2 = 12ull;
-      w2c_j1 += w2c_j2;
-      w2c_p2 = w2c_j1;
+      w2c_j0 = w2c_p2;
+      w2c_j1 = 12ull;
+      w2c_j0 += w2c_j1;
+      w2c_p2 = w2c_j0;
+      w2c_j0 = w2c_l7;
+      w2c_j1 = 1ull;
+      w2c_j0 -= w2c_j1;
+      w2c_l7 = w2c_j0;
+      w2c_j1 = 0ull;
       w2c_i0 = w2c_j0 != w2c_j1;
       if (w2c_i0) {goto w2c_L4;}
     w2c_B1:;
@@ -90380,7 +91302,7 @@ static u64 w2c_dine_raw_site_fork(Z_dine_ffi_instance_t* instance, u64 w2c_p0, u
     i64_store(&instance->w2c_memory, (u64)(w2c_i0) + 8, w2c_j1);
     w2c_j0 = w2c_p0;
     w2c_i0 = (u32)(w2c_j0);
-    w2c_j1 = w2c_l8;
+    w2c_j1 = w2c_l9;
     i64_store(&instance->w2c_memory, (u64)(w2c_i0), w2c_j1);
   }
   w2c_j0 = w2c_l5;
@@ -90427,7 +91349,7 @@ static u64 w2c_dine_raw_world_fork(Z_dine_ffi_instance_t* instance, u64 w2c_p0, 
     w2c_i3 = 1701734756u;
     w2c_i2 = w2c_i2 == w2c_i3;
     w2c_j0 = w2c_i2 ? w2c_j0 : w2c_j1;
-    w2c_l9 = w2c_j0;
+    w2c_l10 = w2c_j0;
     w2c_j0 = w2c_l4;
     w2c_i0 = (u32)(w2c_j0);
     w2c_i0 = i32_load8_u(&instance->w2c_memory, (u64)(w2c_i0));
@@ -90443,7 +91365,7 @@ static u64 w2c_dine_raw_world_fork(Z_dine_ffi_instance_t* instance, u64 w2c_p0, 
     w2c_j2 = 8ull;
     w2c_j1 += w2c_j2;
     w2c_i2 = w2c_p1;
-    w2c_f86(instance, w2c_j0, w2c_j1, w2c_i2);
+    w2c_f87(instance, w2c_j0, w2c_j1, w2c_i2);
     w2c_j0 = w2c_l6;
     w2c_i0 = (u32)(w2c_j0);
     w2c_i0 = i32_load8_u(&instance->w2c_memory, (u64)(w2c_i0));
@@ -90457,13 +91379,13 @@ static u64 w2c_dine_raw_world_fork(Z_dine_ffi_instance_t* instance, u64 w2c_p0, 
     w2c_j0 = w2c_l6;
     w2c_i0 = (u32)(w2c_j0);
     w2c_j0 = i64_load(&instance->w2c_memory, (u64)(w2c_i0) + 8u);
-    w2c_l10 = w2c_j0;
+    w2c_l11 = w2c_j0;
     w2c_i0 = (u32)(w2c_j0);
     w2c_j0 = i64_load(&instance->w2c_memory, (u64)(w2c_i0));
     w2c_j1 = 56ull;
     w2c_j0 += w2c_j1;
     w2c_i0 = (u32)(w2c_j0);
-    w2c_j0 = i64_load32_u(&instance->w2c_memory, (u64)(w2c_i0));
+    w2c_j0 = i64_load(&instance->w2c_memory, (u64)(w2c_i0));
     w2c_l5 = w2c_j0;
     w2c_i0 = !(w2c_j0);
     if (w2c_i0) {
@@ -90479,16 +91401,14 @@ static u64 w2c_dine_raw_world_fork(Z_dine_ffi_instance_t* instance, u64 w2c_p0, 
     w2c_j1 = w2c_i3 ? w2c_j1 : w2c_j2;
     w2c_j0 += w2c_j1;
     w2c_l7 = w2c_j0;
-    w2c_j0 = w2c_l5;
-    w2c_j1 = 12ull;
-    w2c_j0 *= w2c_j1;
-    w2c_l11 = w2c_j0;
-    w2c_j0 = 0ull;
-    w2c_p2 = w2c_j0;
     w2c_j0 = 2ull;
     w2c_l4 = w2c_j0;
+    w2c_j0 = 0ull;
+    w2c_p2 = w2c_j0;
+    w2c_j0 = w2c_l5;
+    w2c_l8 = w2c_j0;
     w2c_L5: 
-      w2c_j0 = w2c_l10;
+      w2c_j0 = w2c_l11;
       w2c_i0 = (u32)(w2c_j0);
       w2c_j0 = i64_load(&instance->w2c_memory, (u64)(w2c_i0));
       w2c_j1 = 48ull;
@@ -90497,13 +91417,13 @@ static u64 w2c_dine_raw_world_fork(Z_dine_ffi_instance_t* instance, u64 w2c_p0, 
       w2c_j0 = i64_load(&instance->w2c_memory, (u64)(w2c_i0));
       w2c_j1 = w2c_p2;
       w2c_j0 += w2c_j1;
-      w2c_l8 = w2c_j0;
+      w2c_l9 = w2c_j0;
       w2c_j1 = 8ull;
       w2c_j0 += w2c_j1;
       w2c_i0 = (u32)(w2c_j0);
       w2c_i0 = i32_load(&instance->w2c_memory, (u64)(w2c_i0));
       w2c_l12 = w2c_i0;
-      w2c_j0 = w2c_l8;
+      w2c_j0 = w2c_l9;
       w2c_j1 = 4ull;
       w2c_j0 += w2c_j1;
       w2c_i0 = (u32)(w2c_j0);
@@ -90519,7 +91439,7 @@ static u64 w2c_dine_raw_world_fork(Z_dine_ffi_instance_t* instance, u64 w2c_p0, 
         w2c_j1 = w2c_l7;
         w2c_j0 += w2c_j1;
         w2c_i0 = (u32)(w2c_j0);
-        w2c_j1 = w2c_l8;
+        w2c_j1 = w2c_l9;
         w2c_i1 = (u32)(w2c_j1);
         w2c_i1 = i32_load(&instance->w2c_memory, (u64)(w2c_i1));
         i32_store(&instance->w2c_memory, (u64)(w2c_i0), w2c_i1);
@@ -90556,11 +91476,15 @@ static u64 w2c_dine_raw_world_fork(Z_dine_ffi_instance_t* instance, u64 w2c_p0, 
       w2c_j1 = 3ull;
       w2c_j0 += w2c_j1;
       w2c_l4 = w2c_j0;
-      w2c_j0 = w2c_l11;
-      w2c_j1 = w2c_p2;
-      w2c_j2 = 12ull;
-      w2c_j1 += w2c_j2;
-      w2c_p2 = w2c_j1;
+      w2c_j0 = w2c_p2;
+      w2c_j1 = 12ull;
+      w2c_j0 += w2c_j1;
+      w2c_p2 = w2c_j0;
+      w2c_j0 = w2c_l8;
+      w2c_j1 = 1ull;
+      w2c_j0 -= w2c_j1;
+      w2c_l8 = w2c_j0;
+      w2c_j1 = 0ull;
       w2c_i0 = w2c_j0 != w2c_j1;
       if (w2c_i0) {goto w2c_L5;}
     w2c_B1:;
@@ -90570,7 +91494,7 @@ static u64 w2c_dine_raw_world_fork(Z_dine_ffi_instance_t* instance, u64 w2c_p0, 
     i64_store(&instance->w2c_memory, (u64)(w2c_i0) + 8, w2c_j1);
     w2c_j0 = w2c_p0;
     w2c_i0 = (u32)(w2c_j0);
-    w2c_j1 = w2c_l9;
+    w2c_j1 = w2c_l10;
     i64_store(&instance->w2c_memory, (u64)(w2c_i0), w2c_j1);
   }
   w2c_j0 = w2c_l6;
@@ -90583,14 +91507,14 @@ static u64 w2c_dine_raw_world_fork(Z_dine_ffi_instance_t* instance, u64 w2c_p0, 
 }
 
 static u64 w2c_dine_raw_plan_refusal(Z_dine_ffi_instance_t* instance, u64 w2c_p0, u64 w2c_p1, u64 w2c_p2, u64 w2c_p3) {
-  u32 w2c_l15 = 0, w2c_l16 = 0;
+  u32 w2c_l14 = 0, w2c_l15 = 0, w2c_l16 = 0, w2c_l17 = 0;
   u64 w2c_l4 = 0, w2c_l5 = 0, w2c_l6 = 0, w2c_l7 = 0, w2c_l8 = 0, w2c_l9 = 0, w2c_l10 = 0, w2c_l11 = 0, 
-      w2c_l12 = 0, w2c_l13 = 0, w2c_l14 = 0;
+      w2c_l12 = 0, w2c_l13 = 0;
   FUNC_PROLOGUE;
-  u32 w2c_i0, w2c_i1, w2c_i2, w2c_i3, w2c_i4, w2c_i5;
-  u64 w2c_j0, w2c_j1, w2c_j2, w2c_j3, w2c_j4, w2c_j5, w2c_j6;
+  u32 w2c_i0, w2c_i1, w2c_i2, w2c_i4;
+  u64 w2c_j0, w2c_j1, w2c_j2, w2c_j3, w2c_j4;
   w2c_j0 = instance->w2c_g0;
-  w2c_j1 = 112ull;
+  w2c_j1 = 176ull;
   w2c_j0 -= w2c_j1;
   w2c_l4 = w2c_j0;
   instance->w2c_g0 = w2c_j0;
@@ -90621,12 +91545,10 @@ static u64 w2c_dine_raw_plan_refusal(Z_dine_ffi_instance_t* instance, u64 w2c_p0
     w2c_i0 = (u32)(w2c_j0);
     w2c_j0 = i64_load(&instance->w2c_memory, (u64)(w2c_i0) + 8u);
     w2c_f1(instance, w2c_j0);
-    w2c_j0 = 0ull;
-    w2c_p0 = w2c_j0;
     goto w2c_B0;
   }
   w2c_j0 = 18446744073709551611ull;
-  w2c_p0 = w2c_j0;
+  w2c_l10 = w2c_j0;
   w2c_j0 = w2c_l4;
   w2c_i0 = (u32)(w2c_j0);
   w2c_i0 = i32_load8_u(&instance->w2c_memory, (u64)(w2c_i0) + 4u);
@@ -90637,7 +91559,7 @@ static u64 w2c_dine_raw_plan_refusal(Z_dine_ffi_instance_t* instance, u64 w2c_p0
   w2c_j0 = w2c_l4;
   w2c_i0 = (u32)(w2c_j0);
   w2c_i0 = i32_load(&instance->w2c_memory, (u64)(w2c_i0) + 8u);
-  w2c_l16 = w2c_i0;
+  w2c_l17 = w2c_i0;
   w2c_j0 = w2c_l4;
   w2c_i0 = (u32)(w2c_j0);
   w2c_j1 = 0ull;
@@ -90664,294 +91586,225 @@ static u64 w2c_dine_raw_plan_refusal(Z_dine_ffi_instance_t* instance, u64 w2c_p0
   i64_store(&instance->w2c_memory, (u64)(w2c_i0) + 64, w2c_j1);
   w2c_j0 = w2c_l4;
   w2c_i0 = (u32)(w2c_j0);
-  w2c_j1 = 0ull;
-  i64_store(&instance->w2c_memory, (u64)(w2c_i0) + 44, w2c_j1);
-  w2c_j0 = w2c_l4;
-  w2c_i0 = (u32)(w2c_j0);
-  w2c_i1 = 32u;
-  i32_store(&instance->w2c_memory, (u64)(w2c_i0) + 40, w2c_i1);
-  w2c_j0 = w2c_l4;
-  w2c_i0 = (u32)(w2c_j0);
-  w2c_i1 = 0u;
-  i32_store(&instance->w2c_memory, (u64)(w2c_i0) + 52, w2c_i1);
-  w2c_j0 = w2c_l4;
-  w2c_i0 = (u32)(w2c_j0);
-  w2c_j1 = 18446744073709551615ull;
-  i64_store(&instance->w2c_memory, (u64)(w2c_i0) + 56, w2c_j1);
-  w2c_j0 = w2c_l4;
-  w2c_i0 = (u32)(w2c_j0);
   w2c_j1 = w2c_l4;
-  w2c_j2 = 111ull;
+  w2c_j2 = 175ull;
   w2c_j1 += w2c_j2;
   i64_store(&instance->w2c_memory, (u64)(w2c_i0) + 16, w2c_j1);
-  w2c_j0 = 1060157ull;
+  w2c_j0 = w2c_l4;
+  w2c_j1 = 44ull;
+  w2c_j0 += w2c_j1;
   w2c_l7 = w2c_j0;
-  w2c_j0 = 18ull;
-  w2c_p1 = w2c_j0;
+  w2c_i0 = 3u;
+  w2c_l16 = w2c_i0;
+  w2c_j0 = 7ull;
+  w2c_p0 = w2c_j0;
   w2c_j0 = 1060104ull;
-  w2c_l9 = w2c_j0;
-  w2c_j0 = 9ull;
   w2c_l5 = w2c_j0;
+  w2c_i0 = 1u;
+  w2c_l14 = w2c_i0;
   w2c_i0 = w2c_l15;
   w2c_i1 = 1u;
   w2c_i0 -= w2c_i1;
   switch (w2c_i0) {
-    case 0: goto w2c_B5;
-    case 1: goto w2c_B23;
-    case 2: goto w2c_B22;
-    case 3: goto w2c_B21;
-    case 4: goto w2c_B6;
-    case 5: goto w2c_B20;
-    case 6: goto w2c_B19;
-    case 7: goto w2c_B18;
-    case 8: goto w2c_B17;
-    case 9: goto w2c_B16;
-    case 10: goto w2c_B15;
-    case 11: goto w2c_B14;
-    case 12: goto w2c_B13;
-    case 13: goto w2c_B12;
-    case 14: goto w2c_B11;
-    case 15: goto w2c_B10;
-    case 16: goto w2c_B9;
-    case 17: goto w2c_B8;
-    default: goto w2c_B4;
+    case 0: goto w2c_B22;
+    case 1: goto w2c_B21;
+    case 2: goto w2c_B20;
+    case 3: goto w2c_B19;
+    case 4: goto w2c_B18;
+    case 5: goto w2c_B17;
+    case 6: goto w2c_B16;
+    case 7: goto w2c_B15;
+    case 8: goto w2c_B14;
+    case 9: goto w2c_B13;
+    case 10: goto w2c_B12;
+    case 11: goto w2c_B11;
+    case 12: goto w2c_B10;
+    case 13: goto w2c_B9;
+    case 14: goto w2c_B8;
+    case 15: goto w2c_B7;
+    case 16: goto w2c_B6;
+    case 17: goto w2c_B5;
+    default: goto w2c_B2;
   }
-  w2c_B23:;
-  w2c_j0 = 1060122ull;
-  w2c_l9 = w2c_j0;
-  w2c_j0 = 12ull;
-  w2c_l5 = w2c_j0;
-  goto w2c_B4;
   w2c_B22:;
-  w2c_j0 = 1060134ull;
-  w2c_l9 = w2c_j0;
-  w2c_j0 = 12ull;
+  w2c_i0 = 0u;
+  w2c_l15 = w2c_i0;
+  w2c_j0 = 1060111ull;
   w2c_l5 = w2c_j0;
-  goto w2c_B4;
+  w2c_i0 = 2u;
+  w2c_l14 = w2c_i0;
+  goto w2c_B2;
   w2c_B21:;
-  w2c_j0 = 1060146ull;
-  w2c_l9 = w2c_j0;
-  w2c_j0 = 11ull;
+  w2c_i0 = 0u;
+  w2c_l15 = w2c_i0;
+  w2c_j0 = 10ull;
+  w2c_p0 = w2c_j0;
+  w2c_j0 = 1060118ull;
   w2c_l5 = w2c_j0;
-  goto w2c_B4;
+  w2c_i0 = 3u;
+  w2c_l14 = w2c_i0;
+  goto w2c_B2;
   w2c_B20:;
-  w2c_j0 = 1060175ull;
-  w2c_l7 = w2c_j0;
-  w2c_j0 = 20ull;
-  w2c_p1 = w2c_j0;
-  goto w2c_B6;
+  w2c_i0 = 0u;
+  w2c_l15 = w2c_i0;
+  w2c_j0 = 10ull;
+  w2c_p0 = w2c_j0;
+  w2c_j0 = 1060128ull;
+  w2c_l5 = w2c_j0;
+  w2c_i0 = 4u;
+  w2c_l14 = w2c_i0;
+  goto w2c_B2;
   w2c_B19:;
-  w2c_j0 = 1060195ull;
-  w2c_l9 = w2c_j0;
-  w2c_j0 = 8ull;
+  w2c_i0 = 0u;
+  w2c_l15 = w2c_i0;
+  w2c_j0 = 9ull;
+  w2c_p0 = w2c_j0;
+  w2c_j0 = 1060138ull;
   w2c_l5 = w2c_j0;
-  goto w2c_B4;
+  w2c_i0 = 5u;
+  w2c_l14 = w2c_i0;
+  goto w2c_B2;
   w2c_B18:;
-  w2c_j0 = 1060203ull;
-  w2c_l9 = w2c_j0;
-  w2c_j0 = 14ull;
-  w2c_l5 = w2c_j0;
+  w2c_i0 = 6u;
+  w2c_l14 = w2c_i0;
+  w2c_j0 = 1060147ull;
   goto w2c_B4;
   w2c_B17:;
-  w2c_j0 = 1060217ull;
-  w2c_l7 = w2c_j0;
-  w2c_j0 = 23ull;
-  w2c_p1 = w2c_j0;
-  goto w2c_B6;
-  w2c_B16:;
-  w2c_j0 = 1060240ull;
-  goto w2c_B7;
-  w2c_B15:;
-  w2c_j0 = 1060265ull;
-  w2c_l7 = w2c_j0;
-  w2c_j0 = 22ull;
-  w2c_p1 = w2c_j0;
-  goto w2c_B6;
-  w2c_B14:;
-  w2c_j0 = 1060287ull;
-  w2c_l7 = w2c_j0;
-  w2c_j0 = 16ull;
-  w2c_p1 = w2c_j0;
-  goto w2c_B6;
-  w2c_B13:;
-  w2c_j0 = 1060303ull;
-  w2c_l7 = w2c_j0;
-  w2c_j0 = 21ull;
-  w2c_p1 = w2c_j0;
-  goto w2c_B6;
-  w2c_B12:;
-  w2c_j0 = 1060324ull;
-  w2c_l9 = w2c_j0;
-  w2c_j0 = 15ull;
-  w2c_l5 = w2c_j0;
+  w2c_j0 = 9ull;
+  w2c_p0 = w2c_j0;
+  w2c_i0 = 7u;
+  w2c_l14 = w2c_i0;
+  w2c_j0 = 1060154ull;
   goto w2c_B4;
-  w2c_B11:;
-  w2c_j0 = 1060339ull;
-  w2c_l7 = w2c_j0;
-  w2c_j0 = 19ull;
-  w2c_p1 = w2c_j0;
-  goto w2c_B6;
-  w2c_B10:;
-  w2c_j0 = 1060358ull;
-  w2c_l7 = w2c_j0;
-  w2c_j0 = 23ull;
-  w2c_p1 = w2c_j0;
-  goto w2c_B6;
-  w2c_B9:;
-  w2c_j0 = 1060381ull;
-  goto w2c_B7;
-  w2c_B8:;
-  w2c_j0 = 1060406ull;
-  w2c_B7:;
-  w2c_l7 = w2c_j0;
-  w2c_j0 = 25ull;
-  w2c_p1 = w2c_j0;
-  w2c_B6:;
-  w2c_j0 = w2c_l4;
-  w2c_j1 = 16ull;
-  w2c_j0 += w2c_j1;
-  w2c_j1 = w2c_p1;
-  w2c_i0 = w2c_f53(instance, w2c_j0, w2c_j1);
-  w2c_i0 = !(w2c_i0);
-  if (w2c_i0) {goto w2c_B3;}
-  w2c_j0 = w2c_l4;
-  w2c_j1 = 44ull;
-  w2c_j0 += w2c_j1;
-  w2c_l14 = w2c_j0;
-  w2c_j0 = w2c_l4;
-  w2c_i0 = (u32)(w2c_j0);
-  w2c_j0 = i64_load(&instance->w2c_memory, (u64)(w2c_i0) + 24u);
+  w2c_B16:;
+  w2c_i0 = 0u;
+  w2c_l15 = w2c_i0;
+  w2c_i0 = 2u;
+  w2c_l16 = w2c_i0;
+  w2c_j0 = 6ull;
+  w2c_p0 = w2c_j0;
+  w2c_j0 = 1060163ull;
   w2c_l5 = w2c_j0;
-  w2c_j1 = w2c_p1;
-  w2c_j0 += w2c_j1;
-  w2c_l13 = w2c_j0;
+  w2c_i0 = 8u;
+  w2c_l14 = w2c_i0;
+  goto w2c_B2;
+  w2c_B15:;
+  w2c_i0 = 0u;
+  w2c_l15 = w2c_i0;
+  w2c_i0 = 2u;
+  w2c_l16 = w2c_i0;
+  w2c_j0 = 12ull;
+  w2c_p0 = w2c_j0;
+  w2c_j0 = 1060169ull;
+  w2c_l5 = w2c_j0;
+  w2c_i0 = 9u;
+  w2c_l14 = w2c_i0;
+  goto w2c_B2;
+  w2c_B14:;
+  w2c_j0 = 11ull;
+  w2c_p0 = w2c_j0;
+  w2c_i0 = 10u;
+  w2c_l14 = w2c_i0;
+  w2c_j0 = 1060181ull;
+  goto w2c_B4;
+  w2c_B13:;
+  w2c_j0 = 13ull;
+  w2c_p0 = w2c_j0;
+  w2c_i0 = 11u;
+  w2c_l14 = w2c_i0;
+  w2c_j0 = 1060192ull;
+  goto w2c_B4;
+  w2c_B12:;
+  w2c_j0 = 10ull;
+  w2c_p0 = w2c_j0;
+  w2c_j0 = 1060205ull;
+  w2c_l5 = w2c_j0;
+  w2c_i0 = 12u;
+  w2c_l14 = w2c_i0;
+  w2c_i0 = 1u;
+  goto w2c_B3;
+  w2c_B11:;
+  w2c_j0 = 4ull;
+  w2c_p0 = w2c_j0;
+  w2c_j0 = 1060215ull;
+  w2c_l5 = w2c_j0;
+  w2c_i0 = 13u;
+  w2c_l14 = w2c_i0;
+  w2c_i0 = 1u;
+  goto w2c_B3;
+  w2c_B10:;
+  w2c_j0 = 9ull;
+  w2c_p0 = w2c_j0;
+  w2c_j0 = 1060219ull;
+  w2c_l5 = w2c_j0;
+  w2c_i0 = 14u;
+  w2c_l14 = w2c_i0;
+  w2c_i0 = 1u;
+  goto w2c_B3;
+  w2c_B9:;
+  w2c_i0 = 0u;
+  w2c_l15 = w2c_i0;
+  w2c_i0 = 2u;
+  w2c_l16 = w2c_i0;
+  w2c_j0 = 12ull;
+  w2c_p0 = w2c_j0;
+  w2c_j0 = 1060228ull;
+  w2c_l5 = w2c_j0;
+  w2c_i0 = 15u;
+  w2c_l14 = w2c_i0;
+  goto w2c_B2;
+  w2c_B8:;
+  w2c_i0 = 17u;
+  w2c_l14 = w2c_i0;
+  w2c_j0 = 1060240ull;
+  goto w2c_B4;
+  w2c_B7:;
+  w2c_j0 = 11ull;
+  w2c_p0 = w2c_j0;
+  w2c_i0 = 18u;
+  w2c_l14 = w2c_i0;
+  w2c_j0 = 1060247ull;
+  goto w2c_B4;
+  w2c_B6:;
+  w2c_j0 = 13ull;
+  w2c_p0 = w2c_j0;
+  w2c_j0 = 1060258ull;
+  w2c_l5 = w2c_j0;
+  w2c_i0 = 19u;
+  w2c_l14 = w2c_i0;
+  w2c_i0 = 1u;
+  goto w2c_B3;
+  w2c_B5:;
+  w2c_j0 = 13ull;
+  w2c_p0 = w2c_j0;
+  w2c_i0 = 20u;
+  w2c_l14 = w2c_i0;
+  w2c_j0 = 1060271ull;
+  w2c_B4:;
+  w2c_l5 = w2c_j0;
+  w2c_i0 = 0u;
+  w2c_B3:;
+  w2c_l16 = w2c_i0;
+  w2c_i0 = w2c_l17;
+  w2c_l15 = w2c_i0;
+  w2c_B2:;
   w2c_j0 = w2c_l4;
   w2c_i0 = (u32)(w2c_j0);
-  w2c_j0 = i64_load(&instance->w2c_memory, (u64)(w2c_i0) + 32u);
-  w2c_l12 = w2c_j0;
-  w2c_j0 = w2c_p1;
-  w2c_j1 = w2c_l4;
-  w2c_i1 = (u32)(w2c_j1);
-  w2c_j1 = i64_load(&instance->w2c_memory, (u64)(w2c_i1) + 16u);
-  w2c_l8 = w2c_j1;
-  w2c_j2 = w2c_l5;
-  w2c_j1 += w2c_j2;
-  w2c_l10 = w2c_j1;
-  w2c_j2 = w2c_l7;
-  w2c_j1 -= w2c_j2;
-  w2c_i0 = w2c_j0 > w2c_j1;
-  if (w2c_i0) {
-    w2c_j0 = w2c_p1;
-    w2c_j1 = 28ull;
-    w2c_j0 &= w2c_j1;
-    w2c_l11 = w2c_j0;
-    w2c_j0 = w2c_p1;
-    w2c_j1 = 3ull;
-    w2c_j0 &= w2c_j1;
-    w2c_l9 = w2c_j0;
-    w2c_j0 = 0ull;
-    w2c_p1 = w2c_j0;
-    w2c_L26: 
-      w2c_j0 = w2c_p1;
-      w2c_j1 = w2c_l10;
-      w2c_j0 += w2c_j1;
-      w2c_l5 = w2c_j0;
-      w2c_i0 = (u32)(w2c_j0);
-      w2c_j1 = w2c_p1;
-      w2c_j2 = w2c_l7;
-      w2c_j1 += w2c_j2;
-      w2c_l6 = w2c_j1;
-      w2c_i1 = (u32)(w2c_j1);
-      w2c_i1 = i32_load8_u(&instance->w2c_memory, (u64)(w2c_i1));
-      i32_store8(&instance->w2c_memory, (u64)(w2c_i0), w2c_i1);
-      w2c_j0 = w2c_l5;
-      w2c_j1 = 1ull;
-      w2c_j0 += w2c_j1;
-      w2c_i0 = (u32)(w2c_j0);
-      w2c_j1 = w2c_l6;
-      w2c_j2 = 1ull;
-      w2c_j1 += w2c_j2;
-      w2c_i1 = (u32)(w2c_j1);
-      w2c_i1 = i32_load8_u(&instance->w2c_memory, (u64)(w2c_i1));
-      i32_store8(&instance->w2c_memory, (u64)(w2c_i0), w2c_i1);
-      w2c_j0 = w2c_l5;
-      w2c_j1 = 2ull;
-      w2c_j0 += w2c_j1;
-      w2c_i0 = (u32)(w2c_j0);
-      w2c_j1 = w2c_l6;
-      w2c_j2 = 2ull;
-      w2c_j1 += w2c_j2;
-      w2c_i1 = (u32)(w2c_j1);
-      w2c_i1 = i32_load8_u(&instance->w2c_memory, (u64)(w2c_i1));
-      i32_store8(&instance->w2c_memory, (u64)(w2c_i0), w2c_i1);
-      w2c_j0 = w2c_l5;
-      w2c_j1 = 3ull;
-      w2c_j0 += w2c_j1;
-      w2c_i0 = (u32)(w2c_j0);
-      w2c_j1 = w2c_l6;
-      w2c_j2 = 3ull;
-      w2c_j1 += w2c_j2;
-      w2c_i1 = (u32)(w2c_j1);
-      w2c_i1 = i32_load8_u(&instance->w2c_memory, (u64)(w2c_i1));
-      i32_store8(&instance->w2c_memory, (u64)(w2c_i0), w2c_i1);
-      w2c_j0 = w2c_l11;
-      w2c_j1 = w2c_p1;
-      w2c_j2 = 4ull;
-      w2c_j1 += w2c_j2;
-      w2c_p1 = w2c_j1;
-      w2c_i0 = w2c_j0 != w2c_j1;
-      if (w2c_i0) {goto w2c_L26;}
-    w2c_j0 = w2c_l9;
-    w2c_i0 = !(w2c_j0);
-    if (w2c_i0) {goto w2c_B24;}
-    w2c_j0 = w2c_p1;
-    w2c_j1 = w2c_l7;
-    w2c_j0 += w2c_j1;
-    w2c_l5 = w2c_j0;
-    w2c_j0 = w2c_p1;
-    w2c_j1 = w2c_l10;
-    w2c_j0 += w2c_j1;
-    w2c_p1 = w2c_j0;
-    w2c_L27: 
-      w2c_j0 = w2c_p1;
-      w2c_i0 = (u32)(w2c_j0);
-      w2c_j1 = w2c_l5;
-      w2c_i1 = (u32)(w2c_j1);
-      w2c_i1 = i32_load8_u(&instance->w2c_memory, (u64)(w2c_i1));
-      i32_store8(&instance->w2c_memory, (u64)(w2c_i0), w2c_i1);
-      w2c_j0 = w2c_p1;
-      w2c_j1 = 1ull;
-      w2c_j0 += w2c_j1;
-      w2c_p1 = w2c_j0;
-      w2c_j0 = w2c_l5;
-      w2c_j1 = 1ull;
-      w2c_j0 += w2c_j1;
-      w2c_l5 = w2c_j0;
-      w2c_j0 = w2c_l9;
-      w2c_j1 = 1ull;
-      w2c_j0 -= w2c_j1;
-      w2c_l9 = w2c_j0;
-      w2c_j1 = 0ull;
-      w2c_i0 = w2c_j0 != w2c_j1;
-      if (w2c_i0) {goto w2c_L27;}
-    goto w2c_B24;
-  }
-  w2c_j0 = w2c_p1;
-  w2c_i0 = !(w2c_j0);
-  if (w2c_i0) {goto w2c_B24;}
-  w2c_j0 = w2c_l10;
+  w2c_i1 = w2c_l15;
+  i32_store(&instance->w2c_memory, (u64)(w2c_i0) + 88, w2c_i1);
+  w2c_j0 = w2c_l4;
   w2c_i0 = (u32)(w2c_j0);
-  w2c_j1 = w2c_l7;
-  w2c_i1 = (u32)(w2c_j1);
-  w2c_j2 = w2c_p1;
-  w2c_i2 = (u32)(w2c_j2);
-  memory_copy(&instance->w2c_memory, &instance->w2c_memory, w2c_i0, w2c_i1, w2c_i2);
-  w2c_B24:;
-  w2c_j0 = w2c_l14;
+  w2c_i1 = w2c_l16;
+  i32_store(&instance->w2c_memory, (u64)(w2c_i0) + 84, w2c_i1);
+  w2c_j0 = w2c_l4;
+  w2c_i0 = (u32)(w2c_j0);
+  w2c_i1 = w2c_l14;
+  i32_store(&instance->w2c_memory, (u64)(w2c_i0) + 92, w2c_i1);
+  w2c_j0 = w2c_l7;
   w2c_i0 = (u32)(w2c_j0);
   w2c_j1 = 0ull;
   i64_store(&instance->w2c_memory, (u64)(w2c_i0), w2c_j1);
-  w2c_j0 = w2c_l14;
+  w2c_j0 = w2c_l7;
   w2c_i0 = (u32)(w2c_j0);
   w2c_i1 = 0u;
   i32_store(&instance->w2c_memory, (u64)(w2c_i0) + 8, w2c_i1);
@@ -90961,535 +91814,594 @@ static u64 w2c_dine_raw_plan_refusal(Z_dine_ffi_instance_t* instance, u64 w2c_p0
   i32_store(&instance->w2c_memory, (u64)(w2c_i0) + 40, w2c_i1);
   w2c_j0 = w2c_l4;
   w2c_i0 = (u32)(w2c_j0);
-  w2c_j1 = w2c_l13;
-  i64_store(&instance->w2c_memory, (u64)(w2c_i0) + 24, w2c_j1);
+  w2c_j1 = 18446744073709551615ull;
+  i64_store(&instance->w2c_memory, (u64)(w2c_i0) + 56, w2c_j1);
+  w2c_j0 = w2c_l4;
+  w2c_i0 = (u32)(w2c_j0);
+  w2c_j1 = w2c_p0;
+  i64_store(&instance->w2c_memory, (u64)(w2c_i0) + 128, w2c_j1);
+  w2c_j0 = w2c_l4;
+  w2c_i0 = (u32)(w2c_j0);
+  w2c_j1 = w2c_l5;
+  i64_store(&instance->w2c_memory, (u64)(w2c_i0) + 120, w2c_j1);
+  w2c_j0 = w2c_l4;
+  w2c_i0 = (u32)(w2c_j0);
+  w2c_j1 = 1ull;
+  i64_store(&instance->w2c_memory, (u64)(w2c_i0) + 112, w2c_j1);
+  w2c_j0 = w2c_l4;
+  w2c_i0 = (u32)(w2c_j0);
+  w2c_j1 = 1060284ull;
+  i64_store(&instance->w2c_memory, (u64)(w2c_i0) + 104, w2c_j1);
+  w2c_j0 = w2c_l4;
+  w2c_i0 = (u32)(w2c_j0);
+  w2c_j1 = w2c_l4;
+  w2c_j2 = 84ull;
+  w2c_j1 += w2c_j2;
+  i64_store(&instance->w2c_memory, (u64)(w2c_i0) + 136, w2c_j1);
+  w2c_j0 = w2c_l4;
+  w2c_i0 = (u32)(w2c_j0);
+  w2c_j1 = w2c_l4;
+  w2c_j2 = 92ull;
+  w2c_j1 += w2c_j2;
+  i64_store(&instance->w2c_memory, (u64)(w2c_i0) + 96, w2c_j1);
+  w2c_j0 = w2c_l4;
+  w2c_j1 = 16ull;
+  w2c_j0 += w2c_j1;
+  w2c_j1 = w2c_l4;
+  w2c_j2 = 96ull;
+  w2c_j1 += w2c_j2;
+  w2c_i0 = w2c_f89(instance, w2c_j0, w2c_j1);
+  w2c_i1 = 255u;
+  w2c_i0 &= w2c_i1;
+  if (w2c_i0) {goto w2c_B24;}
+  w2c_j0 = w2c_l7;
+  w2c_i0 = (u32)(w2c_j0);
+  w2c_j1 = 0ull;
+  i64_store(&instance->w2c_memory, (u64)(w2c_i0), w2c_j1);
+  w2c_j0 = w2c_l7;
+  w2c_i0 = (u32)(w2c_j0);
+  w2c_i1 = 0u;
+  i32_store(&instance->w2c_memory, (u64)(w2c_i0) + 8, w2c_i1);
+  w2c_j0 = w2c_l4;
+  w2c_i0 = (u32)(w2c_j0);
+  w2c_i1 = 32u;
+  i32_store(&instance->w2c_memory, (u64)(w2c_i0) + 40, w2c_i1);
   w2c_j0 = w2c_l4;
   w2c_i0 = (u32)(w2c_j0);
   w2c_j1 = 18446744073709551615ull;
   i64_store(&instance->w2c_memory, (u64)(w2c_i0) + 56, w2c_j1);
   w2c_j0 = w2c_l4;
   w2c_i0 = (u32)(w2c_j0);
-  w2c_j1 = 0ull;
-  i64_store(&instance->w2c_memory, (u64)(w2c_i0) + 96, w2c_j1);
-  w2c_j0 = w2c_l4;
-  w2c_i0 = (u32)(w2c_j0);
-  w2c_j1 = 0ull;
-  i64_store(&instance->w2c_memory, (u64)(w2c_i0) + 88, w2c_j1);
-  w2c_j0 = w2c_l4;
-  w2c_i0 = (u32)(w2c_j0);
-  w2c_j1 = 0ull;
-  i64_store(&instance->w2c_memory, (u64)(w2c_i0) + 80, w2c_j1);
-  w2c_i0 = w2c_l16;
-  w2c_j0 = (u64)(w2c_i0);
-  w2c_l6 = w2c_j0;
-  w2c_j0 = 24ull;
-  w2c_p1 = w2c_j0;
-  w2c_i0 = w2c_l16;
-  w2c_i1 = 100u;
-  w2c_i0 = w2c_i0 >= w2c_i1;
-  if (w2c_i0) {
-    w2c_L29: 
-      w2c_j0 = w2c_l4;
-      w2c_j1 = 80ull;
-      w2c_j0 += w2c_j1;
-      w2c_j1 = w2c_p1;
-      w2c_j0 += w2c_j1;
-      w2c_l7 = w2c_j0;
-      w2c_j1 = 2ull;
-      w2c_j0 -= w2c_j1;
-      w2c_i0 = (u32)(w2c_j0);
-      w2c_j1 = w2c_l6;
-      w2c_l5 = w2c_j1;
-      w2c_j2 = w2c_l5;
-      w2c_j3 = 100ull;
-      w2c_j2 = DIV_U(w2c_j2, w2c_j3);
-      w2c_l6 = w2c_j2;
-      w2c_j3 = 100ull;
-      w2c_j2 *= w2c_j3;
-      w2c_j1 -= w2c_j2;
-      w2c_i1 = (u32)(w2c_j1);
-      w2c_l15 = w2c_i1;
-      w2c_i2 = 255u;
-      w2c_i1 &= w2c_i2;
-      w2c_i2 = 10u;
-      w2c_i1 = DIV_U(w2c_i1, w2c_i2);
-      w2c_l16 = w2c_i1;
-      w2c_i2 = 48u;
-      w2c_i1 |= w2c_i2;
-      i32_store8(&instance->w2c_memory, (u64)(w2c_i0), w2c_i1);
-      w2c_j0 = w2c_l7;
-      w2c_j1 = 1ull;
-      w2c_j0 -= w2c_j1;
-      w2c_i0 = (u32)(w2c_j0);
-      w2c_i1 = w2c_l15;
-      w2c_i2 = w2c_l16;
-      w2c_i3 = 10u;
-      w2c_i2 *= w2c_i3;
-      w2c_i1 -= w2c_i2;
-      w2c_i2 = 48u;
-      w2c_i1 |= w2c_i2;
-      i32_store8(&instance->w2c_memory, (u64)(w2c_i0), w2c_i1);
-      w2c_j0 = w2c_p1;
-      w2c_j1 = 2ull;
-      w2c_j0 -= w2c_j1;
-      w2c_p1 = w2c_j0;
-      w2c_j0 = w2c_l5;
-      w2c_j1 = 9999ull;
-      w2c_i0 = w2c_j0 > w2c_j1;
-      if (w2c_i0) {goto w2c_L29;}
-  }
-  w2c_j0 = w2c_l6;
-  w2c_i0 = (u32)(w2c_j0);
-  w2c_l15 = w2c_i0;
-  w2c_j0 = w2c_l6;
-  w2c_j1 = 10ull;
-  w2c_i0 = w2c_j0 >= w2c_j1;
+  w2c_j0 = i64_load(&instance->w2c_memory, (u64)(w2c_i0) + 64u);
+  w2c_i0 = !(w2c_j0);
   if (w2c_i0) {
     w2c_j0 = w2c_l4;
-    w2c_j1 = 80ull;
-    w2c_j0 += w2c_j1;
+    w2c_i0 = (u32)(w2c_j0);
+    w2c_j0 = i64_load(&instance->w2c_memory, (u64)(w2c_i0) + 32u);
+    w2c_l6 = w2c_j0;
+    w2c_j1 = w2c_l4;
+    w2c_i1 = (u32)(w2c_j1);
+    w2c_j1 = i64_load(&instance->w2c_memory, (u64)(w2c_i1) + 24u);
+    w2c_p1 = w2c_j1;
+    w2c_i0 = w2c_j0 == w2c_j1;
+    if (w2c_i0) {
+      w2c_j0 = w2c_l4;
+      w2c_j1 = 16ull;
+      w2c_j0 += w2c_j1;
+      w2c_j1 = 1ull;
+      w2c_i0 = w2c_f53(instance, w2c_j0, w2c_j1);
+      w2c_i0 = !(w2c_i0);
+      if (w2c_i0) {goto w2c_B24;}
+      w2c_j0 = w2c_l4;
+      w2c_i0 = (u32)(w2c_j0);
+      w2c_j0 = i64_load(&instance->w2c_memory, (u64)(w2c_i0) + 32u);
+      w2c_l6 = w2c_j0;
+      w2c_j0 = w2c_l4;
+      w2c_i0 = (u32)(w2c_j0);
+      w2c_j0 = i64_load(&instance->w2c_memory, (u64)(w2c_i0) + 24u);
+      w2c_p1 = w2c_j0;
+    }
+    w2c_j0 = w2c_l4;
+    w2c_i0 = (u32)(w2c_j0);
+    w2c_j0 = i64_load(&instance->w2c_memory, (u64)(w2c_i0) + 16u);
     w2c_j1 = w2c_p1;
     w2c_j0 += w2c_j1;
-    w2c_l5 = w2c_j0;
-    w2c_j1 = 2ull;
-    w2c_j0 -= w2c_j1;
     w2c_i0 = (u32)(w2c_j0);
-    w2c_i1 = w2c_l15;
-    w2c_i2 = 255u;
-    w2c_i1 &= w2c_i2;
-    w2c_i2 = 10u;
-    w2c_i1 = DIV_U(w2c_i1, w2c_i2);
-    w2c_l16 = w2c_i1;
-    w2c_i2 = 48u;
-    w2c_i1 |= w2c_i2;
+    w2c_i1 = 32u;
     i32_store8(&instance->w2c_memory, (u64)(w2c_i0), w2c_i1);
-    w2c_j0 = w2c_l5;
-    w2c_j1 = 1ull;
-    w2c_j0 -= w2c_j1;
+    w2c_j0 = w2c_l4;
     w2c_i0 = (u32)(w2c_j0);
-    w2c_i1 = w2c_l15;
-    w2c_i2 = w2c_l16;
-    w2c_i3 = 10u;
-    w2c_i2 *= w2c_i3;
-    w2c_i1 -= w2c_i2;
-    w2c_i2 = 48u;
-    w2c_i1 |= w2c_i2;
-    i32_store8(&instance->w2c_memory, (u64)(w2c_i0), w2c_i1);
-    w2c_j0 = w2c_p1;
-    w2c_j1 = 2ull;
-    w2c_j0 -= w2c_j1;
-    w2c_p1 = w2c_j0;
-    goto w2c_B30;
+    w2c_j1 = w2c_l6;
+    i64_store(&instance->w2c_memory, (u64)(w2c_i0) + 32, w2c_j1);
+    w2c_j0 = w2c_l4;
+    w2c_i0 = (u32)(w2c_j0);
+    w2c_j1 = w2c_p1;
+    w2c_j2 = 1ull;
+    w2c_j1 += w2c_j2;
+    i64_store(&instance->w2c_memory, (u64)(w2c_i0) + 24, w2c_j1);
+    goto w2c_B25;
   }
-  w2c_j0 = w2c_p1;
-  w2c_j1 = 1ull;
-  w2c_j0 -= w2c_j1;
-  w2c_p1 = w2c_j0;
-  w2c_j1 = w2c_l4;
-  w2c_j2 = 80ull;
-  w2c_j1 += w2c_j2;
-  w2c_j0 += w2c_j1;
-  w2c_i0 = (u32)(w2c_j0);
-  w2c_i1 = w2c_l15;
-  w2c_i2 = 48u;
-  w2c_i1 |= w2c_i2;
-  i32_store8(&instance->w2c_memory, (u64)(w2c_i0), w2c_i1);
-  w2c_B30:;
   w2c_j0 = w2c_l4;
-  w2c_j1 = 80ull;
+  w2c_j1 = 16ull;
   w2c_j0 += w2c_j1;
-  w2c_j1 = w2c_p1;
-  w2c_j0 += w2c_j1;
-  w2c_l5 = w2c_j0;
-  w2c_j1 = 1ull;
-  w2c_j0 -= w2c_j1;
+  w2c_j1 = 1060284ull;
+  w2c_j2 = 1ull;
+  w2c_i0 = w2c_f90(instance, w2c_j0, w2c_j1, w2c_j2);
+  w2c_i1 = 255u;
+  w2c_i0 &= w2c_i1;
+  if (w2c_i0) {goto w2c_B24;}
+  w2c_B25:;
+  w2c_j0 = w2c_l7;
   w2c_i0 = (u32)(w2c_j0);
-  w2c_i1 = 45u;
-  i32_store8(&instance->w2c_memory, (u64)(w2c_i0), w2c_i1);
-  w2c_j0 = 24ull;
-  w2c_j1 = w2c_p1;
-  w2c_j0 -= w2c_j1;
-  w2c_p1 = w2c_j0;
+  w2c_j1 = 0ull;
+  i64_store(&instance->w2c_memory, (u64)(w2c_i0), w2c_j1);
+  w2c_j0 = w2c_l7;
+  w2c_i0 = (u32)(w2c_j0);
+  w2c_i1 = 0u;
+  i32_store(&instance->w2c_memory, (u64)(w2c_i0) + 8, w2c_i1);
+  w2c_j0 = w2c_l4;
+  w2c_i0 = (u32)(w2c_j0);
+  w2c_i1 = 32u;
+  i32_store(&instance->w2c_memory, (u64)(w2c_i0) + 40, w2c_i1);
+  w2c_j0 = w2c_l4;
+  w2c_i0 = (u32)(w2c_j0);
+  w2c_j1 = 18446744073709551615ull;
+  i64_store(&instance->w2c_memory, (u64)(w2c_i0) + 56, w2c_j1);
   w2c_j0 = w2c_l4;
   w2c_i0 = (u32)(w2c_j0);
   w2c_j0 = i64_load(&instance->w2c_memory, (u64)(w2c_i0) + 64u);
   w2c_i0 = !(w2c_j0);
   if (w2c_i0) {
-    w2c_j0 = w2c_l12;
-    w2c_j1 = w2c_l13;
+    w2c_j0 = w2c_l4;
+    w2c_i0 = (u32)(w2c_j0);
+    w2c_j0 = i64_load(&instance->w2c_memory, (u64)(w2c_i0) + 32u);
+    w2c_l11 = w2c_j0;
+    w2c_j1 = w2c_l4;
+    w2c_i1 = (u32)(w2c_j1);
+    w2c_j1 = i64_load(&instance->w2c_memory, (u64)(w2c_i1) + 24u);
+    w2c_p1 = w2c_j1;
     w2c_j0 -= w2c_j1;
-    w2c_j1 = w2c_p1;
+    w2c_j1 = w2c_p0;
     w2c_i0 = w2c_j0 < w2c_j1;
     if (w2c_i0) {
       w2c_j0 = w2c_l4;
       w2c_j1 = 16ull;
       w2c_j0 += w2c_j1;
-      w2c_j1 = w2c_p1;
+      w2c_j1 = w2c_p0;
       w2c_i0 = w2c_f53(instance, w2c_j0, w2c_j1);
       w2c_i0 = !(w2c_i0);
-      if (w2c_i0) {goto w2c_B3;}
-      w2c_j0 = w2c_l4;
-      w2c_i0 = (u32)(w2c_j0);
-      w2c_j0 = i64_load(&instance->w2c_memory, (u64)(w2c_i0) + 24u);
-      w2c_l13 = w2c_j0;
-      w2c_j0 = w2c_l4;
-      w2c_i0 = (u32)(w2c_j0);
-      w2c_j0 = i64_load(&instance->w2c_memory, (u64)(w2c_i0) + 16u);
-      w2c_l8 = w2c_j0;
+      if (w2c_i0) {goto w2c_B24;}
       w2c_j0 = w2c_l4;
       w2c_i0 = (u32)(w2c_j0);
       w2c_j0 = i64_load(&instance->w2c_memory, (u64)(w2c_i0) + 32u);
-      w2c_l12 = w2c_j0;
-    }
-    w2c_j0 = w2c_p1;
-    w2c_i0 = !(w2c_j0);
-    w2c_i0 = !(w2c_i0);
-    if (w2c_i0) {
-      w2c_j0 = w2c_l8;
-      w2c_j1 = w2c_l13;
-      w2c_j0 += w2c_j1;
+      w2c_l11 = w2c_j0;
+      w2c_j0 = w2c_l4;
       w2c_i0 = (u32)(w2c_j0);
-      w2c_j1 = w2c_l5;
-      w2c_i1 = (u32)(w2c_j1);
-      w2c_j2 = w2c_p1;
-      w2c_i2 = (u32)(w2c_j2);
-      memory_copy(&instance->w2c_memory, &instance->w2c_memory, w2c_i0, w2c_i1, w2c_i2);
+      w2c_j0 = i64_load(&instance->w2c_memory, (u64)(w2c_i0) + 24u);
+      w2c_p1 = w2c_j0;
     }
+    w2c_j0 = w2c_p0;
+    w2c_j1 = w2c_p1;
+    w2c_j0 += w2c_j1;
+    w2c_l13 = w2c_j0;
+    w2c_j0 = w2c_p0;
+    w2c_j1 = w2c_l4;
+    w2c_i1 = (u32)(w2c_j1);
+    w2c_j1 = i64_load(&instance->w2c_memory, (u64)(w2c_i1) + 16u);
+    w2c_j2 = w2c_p1;
+    w2c_j1 += w2c_j2;
+    w2c_l9 = w2c_j1;
+    w2c_j2 = w2c_l5;
+    w2c_j1 -= w2c_j2;
+    w2c_i0 = w2c_j0 > w2c_j1;
+    if (w2c_i0) {
+      w2c_j0 = w2c_p0;
+      w2c_j1 = 12ull;
+      w2c_j0 &= w2c_j1;
+      w2c_l12 = w2c_j0;
+      w2c_j0 = w2c_p0;
+      w2c_j1 = 3ull;
+      w2c_j0 &= w2c_j1;
+      w2c_l8 = w2c_j0;
+      w2c_j0 = 0ull;
+      w2c_p0 = w2c_j0;
+      w2c_L33: 
+        w2c_j0 = w2c_p0;
+        w2c_j1 = w2c_l9;
+        w2c_j0 += w2c_j1;
+        w2c_p1 = w2c_j0;
+        w2c_i0 = (u32)(w2c_j0);
+        w2c_j1 = w2c_p0;
+        w2c_j2 = w2c_l5;
+        w2c_j1 += w2c_j2;
+        w2c_l6 = w2c_j1;
+        w2c_i1 = (u32)(w2c_j1);
+        w2c_i1 = i32_load8_u(&instance->w2c_memory, (u64)(w2c_i1));
+        i32_store8(&instance->w2c_memory, (u64)(w2c_i0), w2c_i1);
+        w2c_j0 = w2c_p1;
+        w2c_j1 = 1ull;
+        w2c_j0 += w2c_j1;
+        w2c_i0 = (u32)(w2c_j0);
+        w2c_j1 = w2c_l6;
+        w2c_j2 = 1ull;
+        w2c_j1 += w2c_j2;
+        w2c_i1 = (u32)(w2c_j1);
+        w2c_i1 = i32_load8_u(&instance->w2c_memory, (u64)(w2c_i1));
+        i32_store8(&instance->w2c_memory, (u64)(w2c_i0), w2c_i1);
+        w2c_j0 = w2c_p1;
+        w2c_j1 = 2ull;
+        w2c_j0 += w2c_j1;
+        w2c_i0 = (u32)(w2c_j0);
+        w2c_j1 = w2c_l6;
+        w2c_j2 = 2ull;
+        w2c_j1 += w2c_j2;
+        w2c_i1 = (u32)(w2c_j1);
+        w2c_i1 = i32_load8_u(&instance->w2c_memory, (u64)(w2c_i1));
+        i32_store8(&instance->w2c_memory, (u64)(w2c_i0), w2c_i1);
+        w2c_j0 = w2c_p1;
+        w2c_j1 = 3ull;
+        w2c_j0 += w2c_j1;
+        w2c_i0 = (u32)(w2c_j0);
+        w2c_j1 = w2c_l6;
+        w2c_j2 = 3ull;
+        w2c_j1 += w2c_j2;
+        w2c_i1 = (u32)(w2c_j1);
+        w2c_i1 = i32_load8_u(&instance->w2c_memory, (u64)(w2c_i1));
+        i32_store8(&instance->w2c_memory, (u64)(w2c_i0), w2c_i1);
+        w2c_j0 = w2c_l12;
+        w2c_j1 = w2c_p0;
+        w2c_j2 = 4ull;
+        w2c_j1 += w2c_j2;
+        w2c_p0 = w2c_j1;
+        w2c_i0 = w2c_j0 != w2c_j1;
+        if (w2c_i0) {goto w2c_L33;}
+      w2c_j0 = w2c_l8;
+      w2c_i0 = !(w2c_j0);
+      if (w2c_i0) {goto w2c_B31;}
+      w2c_j0 = w2c_p0;
+      w2c_j1 = w2c_l5;
+      w2c_j0 += w2c_j1;
+      w2c_p1 = w2c_j0;
+      w2c_j0 = w2c_p0;
+      w2c_j1 = w2c_l9;
+      w2c_j0 += w2c_j1;
+      w2c_p0 = w2c_j0;
+      w2c_L34: 
+        w2c_j0 = w2c_p0;
+        w2c_i0 = (u32)(w2c_j0);
+        w2c_j1 = w2c_p1;
+        w2c_i1 = (u32)(w2c_j1);
+        w2c_i1 = i32_load8_u(&instance->w2c_memory, (u64)(w2c_i1));
+        i32_store8(&instance->w2c_memory, (u64)(w2c_i0), w2c_i1);
+        w2c_j0 = w2c_p0;
+        w2c_j1 = 1ull;
+        w2c_j0 += w2c_j1;
+        w2c_p0 = w2c_j0;
+        w2c_j0 = w2c_p1;
+        w2c_j1 = 1ull;
+        w2c_j0 += w2c_j1;
+        w2c_p1 = w2c_j0;
+        w2c_j0 = w2c_l8;
+        w2c_j1 = 1ull;
+        w2c_j0 -= w2c_j1;
+        w2c_l8 = w2c_j0;
+        w2c_j1 = 0ull;
+        w2c_i0 = w2c_j0 != w2c_j1;
+        if (w2c_i0) {goto w2c_L34;}
+      goto w2c_B31;
+    }
+    w2c_j0 = w2c_p0;
+    w2c_i0 = !(w2c_j0);
+    if (w2c_i0) {goto w2c_B31;}
+    w2c_j0 = w2c_l9;
+    w2c_i0 = (u32)(w2c_j0);
+    w2c_j1 = w2c_l5;
+    w2c_i1 = (u32)(w2c_j1);
+    w2c_j2 = w2c_p0;
+    w2c_i2 = (u32)(w2c_j2);
+    memory_copy(&instance->w2c_memory, &instance->w2c_memory, w2c_i0, w2c_i1, w2c_i2);
+    w2c_B31:;
     w2c_j0 = w2c_l4;
     w2c_i0 = (u32)(w2c_j0);
-    w2c_j1 = w2c_l12;
+    w2c_j1 = w2c_l11;
     i64_store(&instance->w2c_memory, (u64)(w2c_i0) + 32, w2c_j1);
     w2c_j0 = w2c_l4;
     w2c_i0 = (u32)(w2c_j0);
-    w2c_j1 = w2c_p1;
-    w2c_j2 = w2c_l13;
-    w2c_j1 += w2c_j2;
-    w2c_p0 = w2c_j1;
+    w2c_j1 = w2c_l13;
     i64_store(&instance->w2c_memory, (u64)(w2c_i0) + 24, w2c_j1);
-    goto w2c_B2;
+    goto w2c_B28;
   }
   w2c_j0 = w2c_l4;
   w2c_j1 = 16ull;
   w2c_j0 += w2c_j1;
-  w2c_l8 = w2c_j0;
-  w2c_j0 = w2c_l5;
-  w2c_l14 = w2c_j0;
-  w2c_j0 = 0ull;
-  w2c_l6 = w2c_j0;
-  w2c_j0 = 0ull;
-  w2c_l5 = w2c_j0;
-  w2c_i0 = 0u;
-  w2c_j1 = w2c_p1;
-  w2c_i1 = !(w2c_j1);
-  if (w2c_i1) {goto w2c_B36;}
-  w2c_j0 = w2c_l8;
-  w2c_j1 = 56ull;
+  w2c_j1 = w2c_l5;
+  w2c_j2 = w2c_p0;
+  w2c_i0 = w2c_f90(instance, w2c_j0, w2c_j1, w2c_j2);
+  w2c_i1 = 255u;
+  w2c_i0 &= w2c_i1;
+  if (w2c_i0) {goto w2c_B24;}
+  w2c_B28:;
+  w2c_j0 = w2c_l4;
+  w2c_j1 = 88ull;
   w2c_j0 += w2c_j1;
-  w2c_l10 = w2c_j0;
-  w2c_j0 = w2c_l8;
-  w2c_j1 = 48ull;
-  w2c_j0 += w2c_j1;
-  w2c_l13 = w2c_j0;
-  w2c_L37: 
-    w2c_j0 = w2c_l5;
-    w2c_l11 = w2c_j0;
-    w2c_j0 = w2c_l6;
-    w2c_l12 = w2c_j0;
-    w2c_j1 = 1ull;
-    w2c_j0 += w2c_j1;
-    w2c_l6 = w2c_j0;
-    w2c_j0 = w2c_l12;
-    w2c_j1 = w2c_l14;
-    w2c_j0 += w2c_j1;
-    w2c_i0 = (u32)(w2c_j0);
-    w2c_i0 = i32_load8_u(&instance->w2c_memory, (u64)(w2c_i0));
-    w2c_i1 = 10u;
-    w2c_i0 = w2c_i0 != w2c_i1;
-    if (w2c_i0) {goto w2c_B38;}
-    w2c_j0 = w2c_l6;
-    w2c_l5 = w2c_j0;
-    w2c_j0 = w2c_l11;
-    w2c_j1 = w2c_l12;
-    w2c_i0 = w2c_j0 > w2c_j1;
-    if (w2c_i0) {goto w2c_B38;}
-    w2c_j0 = w2c_l10;
-    w2c_i0 = (u32)(w2c_j0);
-    w2c_i0 = i32_load8_u(&instance->w2c_memory, (u64)(w2c_i0));
-    w2c_i1 = 1u;
-    w2c_i0 = w2c_i0 != w2c_i1;
-    if (w2c_i0) {goto w2c_B39;}
-    w2c_j0 = w2c_l13;
-    w2c_i0 = (u32)(w2c_j0);
-    w2c_j0 = i64_load(&instance->w2c_memory, (u64)(w2c_i0));
-    w2c_l12 = w2c_j0;
-    w2c_i0 = !(w2c_j0);
-    if (w2c_i0) {goto w2c_B39;}
-    w2c_L40: 
-      w2c_j0 = w2c_l8;
-      w2c_j1 = 1060431ull;
-      w2c_j2 = 4ull;
-      w2c_i0 = w2c_f88(instance, w2c_j0, w2c_j1, w2c_j2);
-      w2c_i1 = 255u;
-      w2c_i0 &= w2c_i1;
-      w2c_i0 = !(w2c_i0);
-      if (w2c_i0) {
-        w2c_j0 = w2c_l12;
-        w2c_j1 = 1ull;
-        w2c_j0 -= w2c_j1;
-        w2c_l12 = w2c_j0;
-        w2c_i0 = !(w2c_j0);
-        w2c_i0 = !(w2c_i0);
-        if (w2c_i0) {goto w2c_L40;}
-        goto w2c_B39;
-      }
-    w2c_i0 = 1u;
-    goto w2c_B35;
-    w2c_B39:;
-    w2c_j0 = w2c_l10;
-    w2c_i0 = (u32)(w2c_j0);
-    w2c_i1 = 1u;
-    i32_store8(&instance->w2c_memory, (u64)(w2c_i0), w2c_i1);
-    w2c_i0 = 1u;
-    w2c_j1 = w2c_l8;
-    w2c_j2 = w2c_l14;
-    w2c_j3 = 0ull;
-    w2c_j4 = w2c_l11;
-    w2c_j5 = w2c_l6;
-    w2c_j6 = w2c_l11;
-    w2c_i5 = w2c_j5 < w2c_j6;
-    w2c_j3 = w2c_i5 ? w2c_j3 : w2c_j4;
-    w2c_j2 += w2c_j3;
-    w2c_j3 = w2c_l6;
-    w2c_j4 = w2c_l11;
-    w2c_j3 -= w2c_j4;
-    w2c_i1 = w2c_f88(instance, w2c_j1, w2c_j2, w2c_j3);
-    w2c_i2 = 255u;
-    w2c_i1 &= w2c_i2;
-    if (w2c_i1) {goto w2c_B36;}
-    w2c_B38:;
-    w2c_j0 = w2c_p1;
-    w2c_j1 = w2c_l6;
-    w2c_i0 = w2c_j0 != w2c_j1;
-    if (w2c_i0) {goto w2c_L37;}
-  w2c_i0 = 0u;
-  w2c_j1 = w2c_p1;
-  w2c_j2 = w2c_l5;
-  w2c_i1 = w2c_j1 <= w2c_j2;
-  if (w2c_i1) {goto w2c_B36;}
-  w2c_j0 = w2c_l8;
-  w2c_j1 = 56ull;
-  w2c_j0 += w2c_j1;
-  w2c_l11 = w2c_j0;
+  w2c_p0 = w2c_j0;
+  w2c_j0 = w2c_l4;
   w2c_i0 = (u32)(w2c_j0);
-  w2c_i0 = i32_load8_u(&instance->w2c_memory, (u64)(w2c_i0));
+  w2c_j0 = i64_load8_u(&instance->w2c_memory, (u64)(w2c_i0) + 84u);
+  w2c_i0 = (u32)(w2c_j0);
   w2c_i1 = 1u;
-  w2c_i0 = w2c_i0 != w2c_i1;
-  if (w2c_i0) {goto w2c_B42;}
-  w2c_j0 = w2c_l8;
-  w2c_j1 = 48ull;
-  w2c_j0 += w2c_j1;
+  w2c_i0 -= w2c_i1;
+  switch (w2c_i0) {
+    case 0: goto w2c_B39;
+    case 1: goto w2c_B23;
+    case 2: goto w2c_B23;
+    default: goto w2c_B40;
+  }
+  w2c_B40:;
+  w2c_j0 = w2c_l7;
   w2c_i0 = (u32)(w2c_j0);
-  w2c_j0 = i64_load(&instance->w2c_memory, (u64)(w2c_i0));
-  w2c_l6 = w2c_j0;
-  w2c_i0 = !(w2c_j0);
-  if (w2c_i0) {goto w2c_B42;}
-  w2c_L43: 
-    w2c_j0 = w2c_l8;
-    w2c_j1 = 1060431ull;
-    w2c_j2 = 4ull;
-    w2c_i0 = w2c_f88(instance, w2c_j0, w2c_j1, w2c_j2);
-    w2c_i1 = 255u;
-    w2c_i0 &= w2c_i1;
-    w2c_i0 = !(w2c_i0);
-    if (w2c_i0) {
-      w2c_j0 = w2c_l6;
-      w2c_j1 = 1ull;
-      w2c_j0 -= w2c_j1;
-      w2c_l6 = w2c_j0;
-      w2c_i0 = !(w2c_j0);
-      w2c_i0 = !(w2c_i0);
-      if (w2c_i0) {goto w2c_L43;}
-      goto w2c_B42;
-    }
-  w2c_i0 = 1u;
-  goto w2c_B35;
-  w2c_B42:;
-  w2c_j0 = w2c_l11;
+  w2c_j1 = 0ull;
+  i64_store(&instance->w2c_memory, (u64)(w2c_i0), w2c_j1);
+  w2c_j0 = w2c_l7;
   w2c_i0 = (u32)(w2c_j0);
   w2c_i1 = 0u;
-  i32_store8(&instance->w2c_memory, (u64)(w2c_i0), w2c_i1);
-  w2c_j0 = w2c_l8;
-  w2c_j1 = w2c_l14;
-  w2c_j2 = 0ull;
-  w2c_j3 = w2c_l5;
-  w2c_j4 = w2c_p1;
-  w2c_j5 = w2c_l5;
-  w2c_i4 = w2c_j4 < w2c_j5;
-  w2c_j2 = w2c_i4 ? w2c_j2 : w2c_j3;
-  w2c_j1 += w2c_j2;
-  w2c_j2 = 0ull;
-  w2c_j3 = w2c_p1;
-  w2c_j4 = w2c_l5;
-  w2c_j3 -= w2c_j4;
-  w2c_l6 = w2c_j3;
-  w2c_j4 = w2c_p1;
-  w2c_j5 = w2c_l6;
-  w2c_i4 = w2c_j4 < w2c_j5;
-  w2c_j2 = w2c_i4 ? w2c_j2 : w2c_j3;
-  w2c_i0 = w2c_f88(instance, w2c_j0, w2c_j1, w2c_j2);
-  w2c_i1 = 255u;
-  w2c_i0 &= w2c_i1;
-  w2c_B36:;
-  w2c_B35:;
-  w2c_i1 = 255u;
-  w2c_i0 &= w2c_i1;
-  if (w2c_i0) {goto w2c_B3;}
+  i32_store(&instance->w2c_memory, (u64)(w2c_i0) + 8, w2c_i1);
   w2c_j0 = w2c_l4;
   w2c_i0 = (u32)(w2c_j0);
-  w2c_j0 = i64_load(&instance->w2c_memory, (u64)(w2c_i0) + 24u);
-  w2c_p0 = w2c_j0;
+  w2c_j1 = w2c_p0;
+  i64_store(&instance->w2c_memory, (u64)(w2c_i0) + 160, w2c_j1);
   w2c_j0 = w2c_l4;
   w2c_i0 = (u32)(w2c_j0);
-  w2c_j0 = i64_load(&instance->w2c_memory, (u64)(w2c_i0) + 16u);
-  w2c_l8 = w2c_j0;
-  goto w2c_B2;
-  w2c_B5:;
-  w2c_j0 = 1060113ull;
-  w2c_l9 = w2c_j0;
-  w2c_B4:;
+  w2c_j1 = 9ull;
+  i64_store(&instance->w2c_memory, (u64)(w2c_i0) + 152, w2c_j1);
+  w2c_j0 = w2c_l4;
+  w2c_i0 = (u32)(w2c_j0);
+  w2c_j1 = 1060289ull;
+  i64_store(&instance->w2c_memory, (u64)(w2c_i0) + 144, w2c_j1);
+  w2c_j0 = w2c_l4;
+  w2c_i0 = (u32)(w2c_j0);
+  w2c_i1 = 32u;
+  i32_store(&instance->w2c_memory, (u64)(w2c_i0) + 40, w2c_i1);
+  w2c_j0 = w2c_l4;
+  w2c_i0 = (u32)(w2c_j0);
+  w2c_j1 = 18446744073709551615ull;
+  i64_store(&instance->w2c_memory, (u64)(w2c_i0) + 56, w2c_j1);
+  w2c_j0 = w2c_l4;
+  w2c_i0 = (u32)(w2c_j0);
+  w2c_j0 = i64_load(&instance->w2c_memory, (u64)(w2c_i0) + 64u);
+  w2c_i0 = !(w2c_j0);
+  if (w2c_i0) {
+    w2c_j0 = w2c_l4;
+    w2c_i0 = (u32)(w2c_j0);
+    w2c_j0 = i64_load(&instance->w2c_memory, (u64)(w2c_i0) + 32u);
+    w2c_p1 = w2c_j0;
+    w2c_j1 = w2c_l4;
+    w2c_i1 = (u32)(w2c_j1);
+    w2c_j1 = i64_load(&instance->w2c_memory, (u64)(w2c_i1) + 24u);
+    w2c_p0 = w2c_j1;
+    w2c_j0 -= w2c_j1;
+    w2c_j1 = 8ull;
+    w2c_i0 = w2c_j0 <= w2c_j1;
+    if (w2c_i0) {
+      w2c_j0 = w2c_l4;
+      w2c_j1 = 16ull;
+      w2c_j0 += w2c_j1;
+      w2c_j1 = 9ull;
+      w2c_i0 = w2c_f53(instance, w2c_j0, w2c_j1);
+      w2c_i0 = !(w2c_i0);
+      if (w2c_i0) {goto w2c_B38;}
+      w2c_j0 = w2c_l4;
+      w2c_i0 = (u32)(w2c_j0);
+      w2c_j0 = i64_load(&instance->w2c_memory, (u64)(w2c_i0) + 32u);
+      w2c_p1 = w2c_j0;
+      w2c_j0 = w2c_l4;
+      w2c_i0 = (u32)(w2c_j0);
+      w2c_j0 = i64_load(&instance->w2c_memory, (u64)(w2c_i0) + 24u);
+      w2c_p0 = w2c_j0;
+    }
+    w2c_j0 = w2c_p0;
+    w2c_j1 = 9ull;
+    w2c_j0 += w2c_j1;
+    w2c_l6 = w2c_j0;
+    w2c_j0 = w2c_l4;
+    w2c_i0 = (u32)(w2c_j0);
+    w2c_j0 = i64_load(&instance->w2c_memory, (u64)(w2c_i0) + 16u);
+    w2c_j1 = w2c_p0;
+    w2c_j0 += w2c_j1;
+    w2c_p0 = w2c_j0;
+    w2c_j1 = 1060289ull;
+    w2c_j0 -= w2c_j1;
+    w2c_j1 = 8ull;
+    w2c_i0 = w2c_j0 <= w2c_j1;
+    if (w2c_i0) {
+      w2c_j0 = w2c_p0;
+      w2c_i0 = (u32)(w2c_j0);
+      w2c_i1 = 32u;
+      i32_store8(&instance->w2c_memory, (u64)(w2c_i0) + 8, w2c_i1);
+      w2c_j0 = w2c_p0;
+      w2c_i0 = (u32)(w2c_j0);
+      w2c_j1 = 7310584038315811104ull;
+      i64_store(&instance->w2c_memory, (u64)(w2c_i0), w2c_j1);
+      goto w2c_B43;
+    }
+    w2c_j0 = w2c_p0;
+    w2c_i0 = (u32)(w2c_j0);
+    w2c_i1 = 1060297u;
+    w2c_i1 = i32_load8_u(&instance->w2c_memory, (u64)(w2c_i1));
+    i32_store8(&instance->w2c_memory, (u64)(w2c_i0) + 8, w2c_i1);
+    w2c_j0 = w2c_p0;
+    w2c_i0 = (u32)(w2c_j0);
+    w2c_i1 = 1060289u;
+    w2c_j1 = i64_load(&instance->w2c_memory, (u64)(w2c_i1));
+    i64_store(&instance->w2c_memory, (u64)(w2c_i0), w2c_j1);
+    w2c_B43:;
+    w2c_j0 = w2c_l4;
+    w2c_i0 = (u32)(w2c_j0);
+    w2c_j1 = w2c_p1;
+    i64_store(&instance->w2c_memory, (u64)(w2c_i0) + 32, w2c_j1);
+    w2c_j0 = w2c_l4;
+    w2c_i0 = (u32)(w2c_j0);
+    w2c_j1 = w2c_l6;
+    i64_store(&instance->w2c_memory, (u64)(w2c_i0) + 24, w2c_j1);
+    goto w2c_B36;
+  }
   w2c_j0 = w2c_l4;
   w2c_j1 = 16ull;
   w2c_j0 += w2c_j1;
-  w2c_j1 = w2c_l5;
-  w2c_i0 = w2c_f53(instance, w2c_j0, w2c_j1);
+  w2c_j1 = 1060289ull;
+  w2c_j2 = 9ull;
+  w2c_i0 = w2c_f90(instance, w2c_j0, w2c_j1, w2c_j2);
+  w2c_i1 = 255u;
+  w2c_i0 &= w2c_i1;
   w2c_i0 = !(w2c_i0);
-  if (w2c_i0) {goto w2c_B3;}
+  if (w2c_i0) {goto w2c_B36;}
+  goto w2c_B38;
+  w2c_B39:;
+  w2c_j0 = w2c_l7;
+  w2c_i0 = (u32)(w2c_j0);
+  w2c_j1 = 0ull;
+  i64_store(&instance->w2c_memory, (u64)(w2c_i0), w2c_j1);
+  w2c_j0 = w2c_l7;
+  w2c_i0 = (u32)(w2c_j0);
+  w2c_i1 = 0u;
+  i32_store(&instance->w2c_memory, (u64)(w2c_i0) + 8, w2c_i1);
   w2c_j0 = w2c_l4;
   w2c_i0 = (u32)(w2c_j0);
-  w2c_j0 = i64_load(&instance->w2c_memory, (u64)(w2c_i0) + 24u);
-  w2c_p1 = w2c_j0;
-  w2c_j1 = w2c_l5;
-  w2c_j0 += w2c_j1;
-  w2c_p0 = w2c_j0;
-  w2c_j0 = w2c_l5;
-  w2c_j1 = w2c_l4;
-  w2c_i1 = (u32)(w2c_j1);
-  w2c_j1 = i64_load(&instance->w2c_memory, (u64)(w2c_i1) + 16u);
-  w2c_l8 = w2c_j1;
-  w2c_j2 = w2c_p1;
-  w2c_j1 += w2c_j2;
-  w2c_l10 = w2c_j1;
-  w2c_j2 = w2c_l9;
-  w2c_j1 -= w2c_j2;
-  w2c_i0 = w2c_j0 > w2c_j1;
-  if (w2c_i0) {
-    w2c_j0 = w2c_l5;
-    w2c_j1 = 12ull;
-    w2c_j0 &= w2c_j1;
-    w2c_l11 = w2c_j0;
-    w2c_j0 = w2c_l5;
-    w2c_j1 = 3ull;
-    w2c_j0 &= w2c_j1;
-    w2c_l7 = w2c_j0;
-    w2c_j0 = 0ull;
-    w2c_p1 = w2c_j0;
-    w2c_L46: 
-      w2c_j0 = w2c_p1;
-      w2c_j1 = w2c_l10;
-      w2c_j0 += w2c_j1;
-      w2c_l5 = w2c_j0;
-      w2c_i0 = (u32)(w2c_j0);
-      w2c_j1 = w2c_p1;
-      w2c_j2 = w2c_l9;
-      w2c_j1 += w2c_j2;
-      w2c_l6 = w2c_j1;
-      w2c_i1 = (u32)(w2c_j1);
-      w2c_i1 = i32_load8_u(&instance->w2c_memory, (u64)(w2c_i1));
-      i32_store8(&instance->w2c_memory, (u64)(w2c_i0), w2c_i1);
-      w2c_j0 = w2c_l5;
-      w2c_j1 = 1ull;
-      w2c_j0 += w2c_j1;
-      w2c_i0 = (u32)(w2c_j0);
-      w2c_j1 = w2c_l6;
-      w2c_j2 = 1ull;
-      w2c_j1 += w2c_j2;
-      w2c_i1 = (u32)(w2c_j1);
-      w2c_i1 = i32_load8_u(&instance->w2c_memory, (u64)(w2c_i1));
-      i32_store8(&instance->w2c_memory, (u64)(w2c_i0), w2c_i1);
-      w2c_j0 = w2c_l5;
-      w2c_j1 = 2ull;
-      w2c_j0 += w2c_j1;
-      w2c_i0 = (u32)(w2c_j0);
-      w2c_j1 = w2c_l6;
-      w2c_j2 = 2ull;
-      w2c_j1 += w2c_j2;
-      w2c_i1 = (u32)(w2c_j1);
-      w2c_i1 = i32_load8_u(&instance->w2c_memory, (u64)(w2c_i1));
-      i32_store8(&instance->w2c_memory, (u64)(w2c_i0), w2c_i1);
-      w2c_j0 = w2c_l5;
-      w2c_j1 = 3ull;
-      w2c_j0 += w2c_j1;
-      w2c_i0 = (u32)(w2c_j0);
-      w2c_j1 = w2c_l6;
-      w2c_j2 = 3ull;
-      w2c_j1 += w2c_j2;
-      w2c_i1 = (u32)(w2c_j1);
-      w2c_i1 = i32_load8_u(&instance->w2c_memory, (u64)(w2c_i1));
-      i32_store8(&instance->w2c_memory, (u64)(w2c_i0), w2c_i1);
-      w2c_j0 = w2c_l11;
-      w2c_j1 = w2c_p1;
-      w2c_j2 = 4ull;
-      w2c_j1 += w2c_j2;
-      w2c_p1 = w2c_j1;
-      w2c_i0 = w2c_j0 != w2c_j1;
-      if (w2c_i0) {goto w2c_L46;}
-    w2c_j0 = w2c_l7;
-    w2c_i0 = !(w2c_j0);
-    if (w2c_i0) {goto w2c_B2;}
-    w2c_j0 = w2c_p1;
-    w2c_j1 = w2c_l9;
-    w2c_j0 += w2c_j1;
-    w2c_l5 = w2c_j0;
-    w2c_j0 = w2c_p1;
-    w2c_j1 = w2c_l10;
-    w2c_j0 += w2c_j1;
-    w2c_p1 = w2c_j0;
-    w2c_L47: 
-      w2c_j0 = w2c_p1;
-      w2c_i0 = (u32)(w2c_j0);
-      w2c_j1 = w2c_l5;
-      w2c_i1 = (u32)(w2c_j1);
-      w2c_i1 = i32_load8_u(&instance->w2c_memory, (u64)(w2c_i1));
-      i32_store8(&instance->w2c_memory, (u64)(w2c_i0), w2c_i1);
-      w2c_j0 = w2c_p1;
-      w2c_j1 = 1ull;
-      w2c_j0 += w2c_j1;
-      w2c_p1 = w2c_j0;
-      w2c_j0 = w2c_l5;
-      w2c_j1 = 1ull;
-      w2c_j0 += w2c_j1;
-      w2c_l5 = w2c_j0;
-      w2c_j0 = w2c_l7;
-      w2c_j1 = 1ull;
-      w2c_j0 -= w2c_j1;
-      w2c_l7 = w2c_j0;
-      w2c_j1 = 0ull;
-      w2c_i0 = w2c_j0 != w2c_j1;
-      if (w2c_i0) {goto w2c_L47;}
-    goto w2c_B2;
-  }
-  w2c_j0 = w2c_l5;
-  w2c_i0 = !(w2c_j0);
-  if (w2c_i0) {goto w2c_B2;}
-  w2c_j0 = w2c_l10;
+  w2c_j1 = w2c_p0;
+  i64_store(&instance->w2c_memory, (u64)(w2c_i0) + 160, w2c_j1);
+  w2c_j0 = w2c_l4;
   w2c_i0 = (u32)(w2c_j0);
-  w2c_j1 = w2c_l9;
-  w2c_i1 = (u32)(w2c_j1);
-  w2c_j2 = w2c_l5;
-  w2c_i2 = (u32)(w2c_j2);
-  memory_copy(&instance->w2c_memory, &instance->w2c_memory, w2c_i0, w2c_i1, w2c_i2);
-  goto w2c_B2;
-  w2c_B3:;
+  w2c_j1 = 9ull;
+  i64_store(&instance->w2c_memory, (u64)(w2c_i0) + 152, w2c_j1);
+  w2c_j0 = w2c_l4;
+  w2c_i0 = (u32)(w2c_j0);
+  w2c_j1 = 1060298ull;
+  i64_store(&instance->w2c_memory, (u64)(w2c_i0) + 144, w2c_j1);
+  w2c_j0 = w2c_l4;
+  w2c_i0 = (u32)(w2c_j0);
+  w2c_i1 = 32u;
+  i32_store(&instance->w2c_memory, (u64)(w2c_i0) + 40, w2c_i1);
+  w2c_j0 = w2c_l4;
+  w2c_i0 = (u32)(w2c_j0);
+  w2c_j1 = 18446744073709551615ull;
+  i64_store(&instance->w2c_memory, (u64)(w2c_i0) + 56, w2c_j1);
+  w2c_j0 = w2c_l4;
+  w2c_i0 = (u32)(w2c_j0);
+  w2c_j0 = i64_load(&instance->w2c_memory, (u64)(w2c_i0) + 64u);
+  w2c_i0 = !(w2c_j0);
+  if (w2c_i0) {
+    w2c_j0 = w2c_l4;
+    w2c_i0 = (u32)(w2c_j0);
+    w2c_j0 = i64_load(&instance->w2c_memory, (u64)(w2c_i0) + 32u);
+    w2c_p1 = w2c_j0;
+    w2c_j1 = w2c_l4;
+    w2c_i1 = (u32)(w2c_j1);
+    w2c_j1 = i64_load(&instance->w2c_memory, (u64)(w2c_i1) + 24u);
+    w2c_p0 = w2c_j1;
+    w2c_j0 -= w2c_j1;
+    w2c_j1 = 8ull;
+    w2c_i0 = w2c_j0 <= w2c_j1;
+    if (w2c_i0) {
+      w2c_j0 = w2c_l4;
+      w2c_j1 = 16ull;
+      w2c_j0 += w2c_j1;
+      w2c_j1 = 9ull;
+      w2c_i0 = w2c_f53(instance, w2c_j0, w2c_j1);
+      w2c_i0 = !(w2c_i0);
+      if (w2c_i0) {goto w2c_B38;}
+      w2c_j0 = w2c_l4;
+      w2c_i0 = (u32)(w2c_j0);
+      w2c_j0 = i64_load(&instance->w2c_memory, (u64)(w2c_i0) + 32u);
+      w2c_p1 = w2c_j0;
+      w2c_j0 = w2c_l4;
+      w2c_i0 = (u32)(w2c_j0);
+      w2c_j0 = i64_load(&instance->w2c_memory, (u64)(w2c_i0) + 24u);
+      w2c_p0 = w2c_j0;
+    }
+    w2c_j0 = w2c_p0;
+    w2c_j1 = 9ull;
+    w2c_j0 += w2c_j1;
+    w2c_l6 = w2c_j0;
+    w2c_j0 = w2c_l4;
+    w2c_i0 = (u32)(w2c_j0);
+    w2c_j0 = i64_load(&instance->w2c_memory, (u64)(w2c_i0) + 16u);
+    w2c_j1 = w2c_p0;
+    w2c_j0 += w2c_j1;
+    w2c_p0 = w2c_j0;
+    w2c_j1 = 1060298ull;
+    w2c_j0 -= w2c_j1;
+    w2c_j1 = 8ull;
+    w2c_i0 = w2c_j0 <= w2c_j1;
+    if (w2c_i0) {
+      w2c_j0 = w2c_p0;
+      w2c_i0 = (u32)(w2c_j0);
+      w2c_i1 = 32u;
+      i32_store8(&instance->w2c_memory, (u64)(w2c_i0) + 8, w2c_i1);
+      w2c_j0 = w2c_p0;
+      w2c_i0 = (u32)(w2c_j0);
+      w2c_j1 = 7306919305930891552ull;
+      i64_store(&instance->w2c_memory, (u64)(w2c_i0), w2c_j1);
+      goto w2c_B47;
+    }
+    w2c_j0 = w2c_p0;
+    w2c_i0 = (u32)(w2c_j0);
+    w2c_i1 = 1060306u;
+    w2c_i1 = i32_load8_u(&instance->w2c_memory, (u64)(w2c_i1));
+    i32_store8(&instance->w2c_memory, (u64)(w2c_i0) + 8, w2c_i1);
+    w2c_j0 = w2c_p0;
+    w2c_i0 = (u32)(w2c_j0);
+    w2c_i1 = 1060298u;
+    w2c_j1 = i64_load(&instance->w2c_memory, (u64)(w2c_i1));
+    i64_store(&instance->w2c_memory, (u64)(w2c_i0), w2c_j1);
+    w2c_B47:;
+    w2c_j0 = w2c_l4;
+    w2c_i0 = (u32)(w2c_j0);
+    w2c_j1 = w2c_p1;
+    i64_store(&instance->w2c_memory, (u64)(w2c_i0) + 32, w2c_j1);
+    w2c_j0 = w2c_l4;
+    w2c_i0 = (u32)(w2c_j0);
+    w2c_j1 = w2c_l6;
+    i64_store(&instance->w2c_memory, (u64)(w2c_i0) + 24, w2c_j1);
+    goto w2c_B37;
+  }
+  w2c_j0 = w2c_l4;
+  w2c_j1 = 16ull;
+  w2c_j0 += w2c_j1;
+  w2c_j1 = 1060298ull;
+  w2c_j2 = 9ull;
+  w2c_i0 = w2c_f90(instance, w2c_j0, w2c_j1, w2c_j2);
+  w2c_i1 = 255u;
+  w2c_i0 &= w2c_i1;
+  w2c_i0 = !(w2c_i0);
+  if (w2c_i0) {goto w2c_B37;}
+  w2c_B38:;
+  w2c_i0 = 1u;
+  goto w2c_B35;
+  w2c_B37:;
+  w2c_j0 = w2c_l4;
+  w2c_j1 = 16ull;
+  w2c_j0 += w2c_j1;
+  w2c_j1 = w2c_l4;
+  w2c_j2 = 160ull;
+  w2c_j1 += w2c_j2;
+  w2c_i0 = w2c_f89(instance, w2c_j0, w2c_j1);
+  w2c_i1 = 255u;
+  w2c_i0 &= w2c_i1;
+  goto w2c_B35;
+  w2c_B36:;
+  w2c_j0 = w2c_l4;
+  w2c_j1 = 16ull;
+  w2c_j0 += w2c_j1;
+  w2c_j1 = w2c_l4;
+  w2c_j2 = 160ull;
+  w2c_j1 += w2c_j2;
+  w2c_i0 = w2c_f89(instance, w2c_j0, w2c_j1);
+  w2c_i1 = 255u;
+  w2c_i0 &= w2c_i1;
+  w2c_B35:;
+  w2c_i0 = !(w2c_i0);
+  if (w2c_i0) {goto w2c_B23;}
+  w2c_B24:;
   w2c_j0 = w2c_l4;
   w2c_i0 = (u32)(w2c_j0);
   w2c_j0 = i64_load(&instance->w2c_memory, (u64)(w2c_i0) + 32u);
@@ -91500,18 +92412,21 @@ static u64 w2c_dine_raw_plan_refusal(Z_dine_ffi_instance_t* instance, u64 w2c_p0
   w2c_j0 = i64_load(&instance->w2c_memory, (u64)(w2c_i0) + 16u);
   w2c_leave(instance, w2c_j0);
   goto w2c_B0;
-  w2c_B2:;
+  w2c_B23:;
   w2c_j0 = w2c_l4;
   w2c_i0 = (u32)(w2c_j0);
   w2c_j0 = i64_load(&instance->w2c_memory, (u64)(w2c_i0) + 32u);
-  w2c_l10 = w2c_j0;
+  w2c_l7 = w2c_j0;
   w2c_j0 = w2c_p3;
-  w2c_j1 = w2c_p0;
-  w2c_j2 = w2c_p0;
-  w2c_j3 = w2c_p3;
-  w2c_i2 = w2c_j2 > w2c_j3;
+  w2c_j1 = w2c_l4;
+  w2c_i1 = (u32)(w2c_j1);
+  w2c_j1 = i64_load(&instance->w2c_memory, (u64)(w2c_i1) + 24u);
+  w2c_l10 = w2c_j1;
+  w2c_j2 = w2c_p3;
+  w2c_j3 = w2c_l10;
+  w2c_i2 = w2c_j2 < w2c_j3;
   w2c_j0 = w2c_i2 ? w2c_j0 : w2c_j1;
-  w2c_p1 = w2c_j0;
+  w2c_p0 = w2c_j0;
   w2c_j1 = w2c_p2;
   w2c_j2 = 4096ull;
   w2c_j3 = 0ull;
@@ -91520,147 +92435,150 @@ static u64 w2c_dine_raw_plan_refusal(Z_dine_ffi_instance_t* instance, u64 w2c_p0
   w2c_j2 = w2c_i4 ? w2c_j2 : w2c_j3;
   w2c_l11 = w2c_j2;
   w2c_j1 += w2c_j2;
-  w2c_l7 = w2c_j1;
-  w2c_j2 = w2c_l8;
+  w2c_l9 = w2c_j1;
+  w2c_j2 = w2c_l4;
+  w2c_i2 = (u32)(w2c_j2);
+  w2c_j2 = i64_load(&instance->w2c_memory, (u64)(w2c_i2) + 16u);
+  w2c_l8 = w2c_j2;
   w2c_j1 -= w2c_j2;
   w2c_i0 = w2c_j0 > w2c_j1;
   if (w2c_i0) {
-    w2c_j0 = w2c_p1;
+    w2c_j0 = w2c_p0;
     w2c_j1 = 3ull;
     w2c_j0 &= w2c_j1;
-    w2c_l6 = w2c_j0;
+    w2c_l5 = w2c_j0;
     w2c_j0 = 0ull;
-    w2c_p3 = w2c_j0;
-    w2c_j0 = w2c_p1;
+    w2c_p1 = w2c_j0;
+    w2c_j0 = w2c_p0;
     w2c_j1 = 4ull;
     w2c_i0 = w2c_j0 >= w2c_j1;
     if (w2c_i0) {
-      w2c_j0 = w2c_p1;
+      w2c_j0 = w2c_p0;
       w2c_j1 = 18446744073709551612ull;
       w2c_j0 &= w2c_j1;
-      w2c_l9 = w2c_j0;
-      w2c_L51: 
-        w2c_j0 = w2c_p3;
-        w2c_j1 = w2c_l7;
+      w2c_l12 = w2c_j0;
+      w2c_L52: 
+        w2c_j0 = w2c_p1;
+        w2c_j1 = w2c_l9;
         w2c_j0 += w2c_j1;
-        w2c_p1 = w2c_j0;
+        w2c_p0 = w2c_j0;
         w2c_i0 = (u32)(w2c_j0);
-        w2c_j1 = w2c_p3;
+        w2c_j1 = w2c_p1;
         w2c_j2 = w2c_l8;
         w2c_j1 += w2c_j2;
-        w2c_l5 = w2c_j1;
+        w2c_l6 = w2c_j1;
         w2c_i1 = (u32)(w2c_j1);
         w2c_i1 = i32_load8_u(&instance->w2c_memory, (u64)(w2c_i1));
         i32_store8(&instance->w2c_memory, (u64)(w2c_i0), w2c_i1);
-        w2c_j0 = w2c_p1;
+        w2c_j0 = w2c_p0;
         w2c_j1 = 1ull;
         w2c_j0 += w2c_j1;
         w2c_i0 = (u32)(w2c_j0);
-        w2c_j1 = w2c_l5;
+        w2c_j1 = w2c_l6;
         w2c_j2 = 1ull;
         w2c_j1 += w2c_j2;
         w2c_i1 = (u32)(w2c_j1);
         w2c_i1 = i32_load8_u(&instance->w2c_memory, (u64)(w2c_i1));
         i32_store8(&instance->w2c_memory, (u64)(w2c_i0), w2c_i1);
-        w2c_j0 = w2c_p1;
+        w2c_j0 = w2c_p0;
         w2c_j1 = 2ull;
         w2c_j0 += w2c_j1;
         w2c_i0 = (u32)(w2c_j0);
-        w2c_j1 = w2c_l5;
+        w2c_j1 = w2c_l6;
         w2c_j2 = 2ull;
         w2c_j1 += w2c_j2;
         w2c_i1 = (u32)(w2c_j1);
         w2c_i1 = i32_load8_u(&instance->w2c_memory, (u64)(w2c_i1));
         i32_store8(&instance->w2c_memory, (u64)(w2c_i0), w2c_i1);
-        w2c_j0 = w2c_p1;
+        w2c_j0 = w2c_p0;
         w2c_j1 = 3ull;
         w2c_j0 += w2c_j1;
         w2c_i0 = (u32)(w2c_j0);
-        w2c_j1 = w2c_l5;
+        w2c_j1 = w2c_l6;
         w2c_j2 = 3ull;
         w2c_j1 += w2c_j2;
         w2c_i1 = (u32)(w2c_j1);
         w2c_i1 = i32_load8_u(&instance->w2c_memory, (u64)(w2c_i1));
         i32_store8(&instance->w2c_memory, (u64)(w2c_i0), w2c_i1);
-        w2c_j0 = w2c_l9;
-        w2c_j1 = w2c_p3;
+        w2c_j0 = w2c_l12;
+        w2c_j1 = w2c_p1;
         w2c_j2 = 4ull;
         w2c_j1 += w2c_j2;
-        w2c_p3 = w2c_j1;
+        w2c_p1 = w2c_j1;
         w2c_i0 = w2c_j0 != w2c_j1;
-        if (w2c_i0) {goto w2c_L51;}
-      w2c_j0 = w2c_l6;
+        if (w2c_i0) {goto w2c_L52;}
+      w2c_j0 = w2c_l5;
       w2c_i0 = !(w2c_j0);
-      if (w2c_i0) {goto w2c_B48;}
+      if (w2c_i0) {goto w2c_B49;}
     }
-    w2c_j0 = w2c_p3;
+    w2c_j0 = w2c_p1;
     w2c_j1 = w2c_l8;
     w2c_j0 += w2c_j1;
-    w2c_p1 = w2c_j0;
+    w2c_p0 = w2c_j0;
     w2c_j0 = w2c_p2;
-    w2c_j1 = w2c_p3;
+    w2c_j1 = w2c_p1;
     w2c_j2 = w2c_l11;
     w2c_j1 += w2c_j2;
     w2c_j0 += w2c_j1;
-    w2c_p2 = w2c_j0;
-    w2c_L52: 
-      w2c_j0 = w2c_p2;
+    w2c_p1 = w2c_j0;
+    w2c_L53: 
+      w2c_j0 = w2c_p1;
       w2c_i0 = (u32)(w2c_j0);
-      w2c_j1 = w2c_p1;
+      w2c_j1 = w2c_p0;
       w2c_i1 = (u32)(w2c_j1);
       w2c_i1 = i32_load8_u(&instance->w2c_memory, (u64)(w2c_i1));
       i32_store8(&instance->w2c_memory, (u64)(w2c_i0), w2c_i1);
-      w2c_j0 = w2c_p2;
-      w2c_j1 = 1ull;
-      w2c_j0 += w2c_j1;
-      w2c_p2 = w2c_j0;
       w2c_j0 = w2c_p1;
       w2c_j1 = 1ull;
       w2c_j0 += w2c_j1;
       w2c_p1 = w2c_j0;
-      w2c_j0 = w2c_l6;
+      w2c_j0 = w2c_p0;
+      w2c_j1 = 1ull;
+      w2c_j0 += w2c_j1;
+      w2c_p0 = w2c_j0;
+      w2c_j0 = w2c_l5;
       w2c_j1 = 1ull;
       w2c_j0 -= w2c_j1;
-      w2c_l6 = w2c_j0;
+      w2c_l5 = w2c_j0;
       w2c_j1 = 0ull;
       w2c_i0 = w2c_j0 != w2c_j1;
-      if (w2c_i0) {goto w2c_L52;}
-    goto w2c_B48;
+      if (w2c_i0) {goto w2c_L53;}
+    goto w2c_B49;
   }
-  w2c_j0 = w2c_p1;
+  w2c_j0 = w2c_p0;
   w2c_i0 = !(w2c_j0);
-  if (w2c_i0) {goto w2c_B48;}
-  w2c_j0 = w2c_l7;
+  if (w2c_i0) {goto w2c_B49;}
+  w2c_j0 = w2c_l9;
   w2c_i0 = (u32)(w2c_j0);
   w2c_j1 = w2c_l8;
   w2c_i1 = (u32)(w2c_j1);
-  w2c_j2 = w2c_p1;
+  w2c_j2 = w2c_p0;
   w2c_i2 = (u32)(w2c_j2);
   memory_copy(&instance->w2c_memory, &instance->w2c_memory, w2c_i0, w2c_i1, w2c_i2);
-  w2c_B48:;
-  w2c_j0 = w2c_l10;
+  w2c_B49:;
+  w2c_j0 = w2c_l7;
   w2c_i0 = !(w2c_j0);
   if (w2c_i0) {goto w2c_B0;}
   w2c_j0 = w2c_l8;
   w2c_leave(instance, w2c_j0);
   w2c_B0:;
   w2c_j0 = w2c_l4;
-  w2c_j1 = 112ull;
+  w2c_j1 = 176ull;
   w2c_j0 += w2c_j1;
   instance->w2c_g0 = w2c_j0;
-  w2c_j0 = w2c_p0;
+  w2c_j0 = w2c_l10;
   FUNC_EPILOGUE;
   return w2c_j0;
 }
 
-static void w2c_f136(Z_dine_ffi_instance_t* instance, u64 w2c_p0, u64 w2c_p1) {
+static void w2c_f140(Z_dine_ffi_instance_t* instance, u64 w2c_p0, u64 w2c_p1) {
   FUNC_PROLOGUE;
   u32 w2c_i0, w2c_i1;
   u64 w2c_j0, w2c_j1, w2c_j2;
   w2c_j0 = w2c_p0;
   w2c_i0 = (u32)(w2c_j0);
   w2c_j1 = w2c_p1;
-  w2c_j1 = w2c_f137(instance, w2c_j1);
+  w2c_j1 = w2c_f141(instance, w2c_j1);
   w2c_p1 = w2c_j1;
   i64_store(&instance->w2c_memory, (u64)(w2c_i0) + 8, w2c_j1);
   w2c_j0 = w2c_p0;
@@ -91673,7 +92591,7 @@ static void w2c_f136(Z_dine_ffi_instance_t* instance, u64 w2c_p0, u64 w2c_p1) {
   FUNC_EPILOGUE;
 }
 
-static u64 w2c_f137(Z_dine_ffi_instance_t* instance, u64 w2c_p0) {
+static u64 w2c_f141(Z_dine_ffi_instance_t* instance, u64 w2c_p0) {
   u32 w2c_l5 = 0;
   u64 w2c_l1 = 0, w2c_l2 = 0, w2c_l3 = 0, w2c_l4 = 0;
   FUNC_PROLOGUE;
@@ -91743,7 +92661,7 @@ static u64 w2c_f137(Z_dine_ffi_instance_t* instance, u64 w2c_p0) {
   w2c_j2 = 3ull;
   w2c_j1 <<= (w2c_j2 & 63);
   w2c_i1 = (u32)(w2c_j1);
-  w2c_j1 = i64_load(&instance->w2c_memory, (u64)(w2c_i1) + 1062656u);
+  w2c_j1 = i64_load(&instance->w2c_memory, (u64)(w2c_i1) + 1062528u);
   w2c_j0 &= w2c_j1;
   w2c_l2 = w2c_j0;
   w2c_j1 = 0ull;
@@ -91764,7 +92682,7 @@ static u64 w2c_f137(Z_dine_ffi_instance_t* instance, u64 w2c_p0) {
     w2c_j0 = w2c_p0;
     w2c_j1 = 3ull;
     w2c_j0 <<= (w2c_j1 & 63);
-    w2c_j1 = 1062664ull;
+    w2c_j1 = 1062536ull;
     w2c_j0 += w2c_j1;
     w2c_p0 = w2c_j0;
     w2c_L7: 
@@ -91818,7 +92736,7 @@ static u64 w2c_f137(Z_dine_ffi_instance_t* instance, u64 w2c_p0) {
   w2c_j1 = 3ull;
   w2c_j0 <<= (w2c_j1 & 63);
   w2c_i0 = (u32)(w2c_j0);
-  w2c_j0 = i64_load(&instance->w2c_memory, (u64)(w2c_i0) + 1060608u);
+  w2c_j0 = i64_load(&instance->w2c_memory, (u64)(w2c_i0) + 1060480u);
   w2c_p0 = w2c_j0;
   w2c_i0 = !(w2c_j0);
   if (w2c_i0) {goto w2c_B1;}
@@ -91853,7 +92771,7 @@ static u64 w2c_f137(Z_dine_ffi_instance_t* instance, u64 w2c_p0) {
   w2c_j1 = 3ull;
   w2c_j0 <<= (w2c_j1 & 63);
   w2c_i0 = (u32)(w2c_j0);
-  w2c_j0 = i64_load(&instance->w2c_memory, (u64)(w2c_i0) + 1060608u);
+  w2c_j0 = i64_load(&instance->w2c_memory, (u64)(w2c_i0) + 1060480u);
   w2c_p0 = w2c_j0;
   w2c_i0 = !(w2c_j0);
   if (w2c_i0) {goto w2c_B1;}
@@ -91926,7 +92844,7 @@ static u64 w2c_f137(Z_dine_ffi_instance_t* instance, u64 w2c_p0) {
     w2c_j1 = 3ull;
     w2c_j0 <<= (w2c_j1 & 63);
     w2c_i0 = (u32)(w2c_j0);
-    w2c_j0 = i64_load(&instance->w2c_memory, (u64)(w2c_i0) + 1060608u);
+    w2c_j0 = i64_load(&instance->w2c_memory, (u64)(w2c_i0) + 1060480u);
     w2c_l1 = w2c_j0;
     goto w2c_B12;
   }
@@ -91936,7 +92854,7 @@ static u64 w2c_f137(Z_dine_ffi_instance_t* instance, u64 w2c_p0) {
   w2c_j0 <<= (w2c_j1 & 63);
   w2c_i0 = (u32)(w2c_j0);
   w2c_j1 = w2c_l1;
-  i64_store(&instance->w2c_memory, (u64)(w2c_i0) + 1060608, w2c_j1);
+  i64_store(&instance->w2c_memory, (u64)(w2c_i0) + 1060480, w2c_j1);
   w2c_B12:;
   w2c_j0 = w2c_l1;
   w2c_i0 = !(w2c_j0);
@@ -91951,13 +92869,13 @@ static u64 w2c_f137(Z_dine_ffi_instance_t* instance, u64 w2c_p0) {
     w2c_i0 = (u32)(w2c_j0);
     w2c_j1 = w2c_l1;
     w2c_i1 = (u32)(w2c_j1);
-    w2c_j1 = i64_load(&instance->w2c_memory, (u64)(w2c_i1) + 1062656u);
+    w2c_j1 = i64_load(&instance->w2c_memory, (u64)(w2c_i1) + 1062528u);
     w2c_j2 = 18446744073709551614ull;
     w2c_i3 = w2c_l5;
     w2c_j3 = (u64)(w2c_i3);
     w2c_j2 = I64_ROTL(w2c_j2, w2c_j3);
     w2c_j1 &= w2c_j2;
-    i64_store(&instance->w2c_memory, (u64)(w2c_i0) + 1062656, w2c_j1);
+    i64_store(&instance->w2c_memory, (u64)(w2c_i0) + 1062528, w2c_j1);
     w2c_j0 = w2c_p0;
     w2c_i0 = (u32)(w2c_j0);
     w2c_j0 = i64_load(&instance->w2c_memory, (u64)(w2c_i0));
@@ -91997,15 +92915,15 @@ static u64 w2c_f137(Z_dine_ffi_instance_t* instance, u64 w2c_p0) {
   w2c_j1 = w2c_l2;
   w2c_j0 += w2c_j1;
   w2c_l3 = w2c_j0;
-  w2c_i1 = 1062696u;
+  w2c_i1 = 1062568u;
   w2c_j1 = i64_load(&instance->w2c_memory, (u64)(w2c_i1));
   w2c_i0 = w2c_j0 == w2c_j1;
   if (w2c_i0) {
-    w2c_i0 = 1062704u;
+    w2c_i0 = 1062576u;
     w2c_j1 = w2c_l2;
     i64_store(&instance->w2c_memory, (u64)(w2c_i0), w2c_j1);
     w2c_j0 = w2c_p0;
-    w2c_f138(instance, w2c_j0);
+    w2c_f142(instance, w2c_j0);
     w2c_j0 = w2c_l1;
     goto w2c_Bfunc;
   }
@@ -92014,25 +92932,25 @@ static u64 w2c_f137(Z_dine_ffi_instance_t* instance, u64 w2c_p0) {
   w2c_j1 = w2c_l2;
   i64_store(&instance->w2c_memory, (u64)(w2c_i0) + 8, w2c_j1);
   w2c_j0 = w2c_p0;
-  w2c_f138(instance, w2c_j0);
+  w2c_f142(instance, w2c_j0);
   w2c_j0 = w2c_l1;
   goto w2c_Bfunc;
   w2c_B1:;
-  w2c_i0 = 1062688u;
+  w2c_i0 = 1062560u;
   w2c_j0 = i64_load(&instance->w2c_memory, (u64)(w2c_i0));
   w2c_i0 = !(w2c_j0);
   w2c_i0 = !(w2c_i0);
   if (w2c_i0) {
-    w2c_i0 = 1062696u;
+    w2c_i0 = 1062568u;
     w2c_j0 = i64_load(&instance->w2c_memory, (u64)(w2c_i0));
     w2c_p0 = w2c_j0;
     goto w2c_B16;
   }
-  w2c_i0 = 1062688u;
-  w2c_j1 = 1062720ull;
+  w2c_i0 = 1062560u;
+  w2c_j1 = 1062592ull;
   w2c_p0 = w2c_j1;
   i64_store(&instance->w2c_memory, (u64)(w2c_i0), w2c_j1);
-  w2c_i0 = 1062696u;
+  w2c_i0 = 1062568u;
   w2c_j1 = w2c_p0;
   i64_store(&instance->w2c_memory, (u64)(w2c_i0), w2c_j1);
   w2c_B16:;
@@ -92076,14 +92994,14 @@ static u64 w2c_f137(Z_dine_ffi_instance_t* instance, u64 w2c_p0) {
   i64_store(&instance->w2c_memory, (u64)(w2c_i0), w2c_j1);
   w2c_j0 = w2c_p0;
   w2c_i0 = (u32)(w2c_j0);
-  w2c_i1 = 1062704u;
+  w2c_i1 = 1062576u;
   w2c_j1 = i64_load(&instance->w2c_memory, (u64)(w2c_i1));
   i64_store(&instance->w2c_memory, (u64)(w2c_i0) + 8, w2c_j1);
-  w2c_i0 = 1062704u;
+  w2c_i0 = 1062576u;
   w2c_j1 = w2c_l3;
   i64_store(&instance->w2c_memory, (u64)(w2c_i0), w2c_j1);
-  w2c_i0 = 1062696u;
-  w2c_i1 = 1062696u;
+  w2c_i0 = 1062568u;
+  w2c_i1 = 1062568u;
   w2c_j1 = i64_load(&instance->w2c_memory, (u64)(w2c_i1));
   w2c_j2 = w2c_l3;
   w2c_j1 += w2c_j2;
@@ -92099,13 +93017,13 @@ static u64 w2c_f137(Z_dine_ffi_instance_t* instance, u64 w2c_p0) {
   return w2c_j0;
 }
 
-static void w2c_f138(Z_dine_ffi_instance_t* instance, u64 w2c_p0) {
+static void w2c_f142(Z_dine_ffi_instance_t* instance, u64 w2c_p0) {
   u32 w2c_l6 = 0;
   u64 w2c_l1 = 0, w2c_l2 = 0, w2c_l3 = 0, w2c_l4 = 0, w2c_l5 = 0;
   FUNC_PROLOGUE;
   u32 w2c_i0, w2c_i1, w2c_i2, w2c_i3;
   u64 w2c_j0, w2c_j1, w2c_j2, w2c_j3;
-  w2c_i0 = 1062696u;
+  w2c_i0 = 1062568u;
   w2c_j0 = i64_load(&instance->w2c_memory, (u64)(w2c_i0));
   w2c_l4 = w2c_j0;
   w2c_j1 = w2c_p0;
@@ -92192,7 +93110,7 @@ static void w2c_f138(Z_dine_ffi_instance_t* instance, u64 w2c_p0) {
     w2c_j1 = 3ull;
     w2c_j0 <<= (w2c_j1 & 63);
     w2c_i0 = (u32)(w2c_j0);
-    w2c_j0 = i64_load(&instance->w2c_memory, (u64)(w2c_i0) + 1060608u);
+    w2c_j0 = i64_load(&instance->w2c_memory, (u64)(w2c_i0) + 1060480u);
     w2c_l1 = w2c_j0;
     goto w2c_B3;
   }
@@ -92202,7 +93120,7 @@ static void w2c_f138(Z_dine_ffi_instance_t* instance, u64 w2c_p0) {
   w2c_j0 <<= (w2c_j1 & 63);
   w2c_i0 = (u32)(w2c_j0);
   w2c_j1 = w2c_l1;
-  i64_store(&instance->w2c_memory, (u64)(w2c_i0) + 1060608, w2c_j1);
+  i64_store(&instance->w2c_memory, (u64)(w2c_i0) + 1060480, w2c_j1);
   w2c_B3:;
   w2c_j0 = w2c_l1;
   w2c_i0 = !(w2c_j0);
@@ -92217,13 +93135,13 @@ static void w2c_f138(Z_dine_ffi_instance_t* instance, u64 w2c_p0) {
     w2c_i0 = (u32)(w2c_j0);
     w2c_j1 = w2c_l1;
     w2c_i1 = (u32)(w2c_j1);
-    w2c_j1 = i64_load(&instance->w2c_memory, (u64)(w2c_i1) + 1062656u);
+    w2c_j1 = i64_load(&instance->w2c_memory, (u64)(w2c_i1) + 1062528u);
     w2c_j2 = 18446744073709551614ull;
     w2c_i3 = w2c_l6;
     w2c_j3 = (u64)(w2c_i3);
     w2c_j2 = I64_ROTL(w2c_j2, w2c_j3);
     w2c_j1 &= w2c_j2;
-    i64_store(&instance->w2c_memory, (u64)(w2c_i0) + 1062656, w2c_j1);
+    i64_store(&instance->w2c_memory, (u64)(w2c_i0) + 1062528, w2c_j1);
   }
   w2c_j0 = w2c_p0;
   w2c_i0 = (u32)(w2c_j0);
@@ -92321,7 +93239,7 @@ static void w2c_f138(Z_dine_ffi_instance_t* instance, u64 w2c_p0) {
     w2c_j1 = 3ull;
     w2c_j0 <<= (w2c_j1 & 63);
     w2c_i0 = (u32)(w2c_j0);
-    w2c_j0 = i64_load(&instance->w2c_memory, (u64)(w2c_i0) + 1060608u);
+    w2c_j0 = i64_load(&instance->w2c_memory, (u64)(w2c_i0) + 1060480u);
     w2c_p0 = w2c_j0;
     goto w2c_B11;
   }
@@ -92331,7 +93249,7 @@ static void w2c_f138(Z_dine_ffi_instance_t* instance, u64 w2c_p0) {
   w2c_j0 <<= (w2c_j1 & 63);
   w2c_i0 = (u32)(w2c_j0);
   w2c_j1 = w2c_p0;
-  i64_store(&instance->w2c_memory, (u64)(w2c_i0) + 1060608, w2c_j1);
+  i64_store(&instance->w2c_memory, (u64)(w2c_i0) + 1060480, w2c_j1);
   w2c_B11:;
   w2c_j0 = w2c_l3;
   w2c_j1 = 18446744073709551614ull;
@@ -92350,13 +93268,13 @@ static void w2c_f138(Z_dine_ffi_instance_t* instance, u64 w2c_p0) {
     w2c_i0 = (u32)(w2c_j0);
     w2c_j1 = w2c_p0;
     w2c_i1 = (u32)(w2c_j1);
-    w2c_j1 = i64_load(&instance->w2c_memory, (u64)(w2c_i1) + 1062656u);
+    w2c_j1 = i64_load(&instance->w2c_memory, (u64)(w2c_i1) + 1062528u);
     w2c_j2 = 18446744073709551614ull;
     w2c_i3 = w2c_l6;
     w2c_j3 = (u64)(w2c_i3);
     w2c_j2 = I64_ROTL(w2c_j2, w2c_j3);
     w2c_j1 &= w2c_j2;
-    i64_store(&instance->w2c_memory, (u64)(w2c_i0) + 1062656, w2c_j1);
+    i64_store(&instance->w2c_memory, (u64)(w2c_i0) + 1062528, w2c_j1);
   }
   w2c_j0 = w2c_l1;
   w2c_i0 = (u32)(w2c_j0);
@@ -92376,10 +93294,10 @@ static void w2c_f138(Z_dine_ffi_instance_t* instance, u64 w2c_p0) {
   w2c_j1 = w2c_l4;
   w2c_i0 = w2c_j0 == w2c_j1;
   if (w2c_i0) {
-    w2c_i0 = 1062696u;
+    w2c_i0 = 1062568u;
     w2c_j1 = w2c_l1;
     i64_store(&instance->w2c_memory, (u64)(w2c_i0), w2c_j1);
-    w2c_i0 = 1062704u;
+    w2c_i0 = 1062576u;
     w2c_j1 = w2c_l1;
     w2c_i1 = (u32)(w2c_j1);
     w2c_j1 = i64_load(&instance->w2c_memory, (u64)(w2c_i1) + 8u);
@@ -92436,11 +93354,11 @@ static void w2c_f138(Z_dine_ffi_instance_t* instance, u64 w2c_p0) {
   w2c_j1 <<= (w2c_j2 & 63);
   w2c_l4 = w2c_j1;
   w2c_i1 = (u32)(w2c_j1);
-  w2c_j1 = i64_load(&instance->w2c_memory, (u64)(w2c_i1) + 1060608u);
+  w2c_j1 = i64_load(&instance->w2c_memory, (u64)(w2c_i1) + 1060480u);
   w2c_p0 = w2c_j1;
   i64_store(&instance->w2c_memory, (u64)(w2c_i0) + 16, w2c_j1);
   w2c_j0 = w2c_l4;
-  w2c_j1 = 1060608ull;
+  w2c_j1 = 1060480ull;
   w2c_j0 += w2c_j1;
   w2c_l4 = w2c_j0;
   w2c_j0 = w2c_p0;
@@ -92466,12 +93384,12 @@ static void w2c_f138(Z_dine_ffi_instance_t* instance, u64 w2c_p0) {
   w2c_i0 = (u32)(w2c_j0);
   w2c_j1 = w2c_l1;
   w2c_i1 = (u32)(w2c_j1);
-  w2c_j1 = i64_load(&instance->w2c_memory, (u64)(w2c_i1) + 1062656u);
+  w2c_j1 = i64_load(&instance->w2c_memory, (u64)(w2c_i1) + 1062528u);
   w2c_j2 = 1ull;
   w2c_j3 = w2c_l3;
   w2c_j2 <<= (w2c_j3 & 63);
   w2c_j1 |= w2c_j2;
-  i64_store(&instance->w2c_memory, (u64)(w2c_i0) + 1062656, w2c_j1);
+  i64_store(&instance->w2c_memory, (u64)(w2c_i0) + 1062528, w2c_j1);
   w2c_Bfunc:;
   FUNC_EPILOGUE;
 }
@@ -92482,11 +93400,11 @@ static void w2c_leave(Z_dine_ffi_instance_t* instance, u64 w2c_p0) {
   w2c_j0 = w2c_p0;
   w2c_j1 = 16ull;
   w2c_j0 -= w2c_j1;
-  w2c_f138(instance, w2c_j0);
+  w2c_f142(instance, w2c_j0);
   FUNC_EPILOGUE;
 }
 
-static void w2c_f140(Z_dine_ffi_instance_t* instance, u64 w2c_p0, u64 w2c_p1, u64 w2c_p2, u64 w2c_p3) {
+static void w2c_f144(Z_dine_ffi_instance_t* instance, u64 w2c_p0, u64 w2c_p1, u64 w2c_p2, u64 w2c_p3) {
   u32 w2c_l10 = 0;
   u64 w2c_l4 = 0, w2c_l5 = 0, w2c_l6 = 0, w2c_l7 = 0, w2c_l8 = 0, w2c_l9 = 0;
   FUNC_PROLOGUE;
@@ -92551,11 +93469,11 @@ static void w2c_f140(Z_dine_ffi_instance_t* instance, u64 w2c_p0, u64 w2c_p1, u6
     w2c_j1 = w2c_l5;
     w2c_j0 += w2c_j1;
     w2c_l4 = w2c_j0;
-    w2c_i1 = 1062696u;
+    w2c_i1 = 1062568u;
     w2c_j1 = i64_load(&instance->w2c_memory, (u64)(w2c_i1));
     w2c_i0 = w2c_j0 == w2c_j1;
     if (w2c_i0) {
-      w2c_i0 = 1062704u;
+      w2c_i0 = 1062576u;
       w2c_j1 = w2c_p3;
       i64_store(&instance->w2c_memory, (u64)(w2c_i0), w2c_j1);
       goto w2c_B3;
@@ -92566,12 +93484,12 @@ static void w2c_f140(Z_dine_ffi_instance_t* instance, u64 w2c_p0, u64 w2c_p1, u6
     i64_store(&instance->w2c_memory, (u64)(w2c_i0) + 8, w2c_j1);
     w2c_B3:;
     w2c_j0 = w2c_l5;
-    w2c_f138(instance, w2c_j0);
+    w2c_f142(instance, w2c_j0);
     w2c_j0 = w2c_p1;
     w2c_l4 = w2c_j0;
     goto w2c_B0;
   }
-  w2c_i0 = 1062696u;
+  w2c_i0 = 1062568u;
   w2c_j0 = i64_load(&instance->w2c_memory, (u64)(w2c_i0));
   w2c_l9 = w2c_j0;
   w2c_j1 = w2c_l5;
@@ -92616,10 +93534,10 @@ static void w2c_f140(Z_dine_ffi_instance_t* instance, u64 w2c_p0, u64 w2c_p1, u6
     w2c_i0 = (u32)(w2c_j0);
     w2c_j1 = w2c_l4;
     i64_store(&instance->w2c_memory, (u64)(w2c_i0), w2c_j1);
-    w2c_i0 = 1062696u;
+    w2c_i0 = 1062568u;
     w2c_j1 = w2c_l6;
     i64_store(&instance->w2c_memory, (u64)(w2c_i0), w2c_j1);
-    w2c_i0 = 1062704u;
+    w2c_i0 = 1062576u;
     w2c_j1 = w2c_l4;
     i64_store(&instance->w2c_memory, (u64)(w2c_i0), w2c_j1);
     w2c_j0 = 1ull;
@@ -92706,7 +93624,7 @@ static void w2c_f140(Z_dine_ffi_instance_t* instance, u64 w2c_p0, u64 w2c_p1, u6
     w2c_j1 = 3ull;
     w2c_j0 <<= (w2c_j1 & 63);
     w2c_i0 = (u32)(w2c_j0);
-    w2c_j0 = i64_load(&instance->w2c_memory, (u64)(w2c_i0) + 1060608u);
+    w2c_j0 = i64_load(&instance->w2c_memory, (u64)(w2c_i0) + 1060480u);
     w2c_p3 = w2c_j0;
     goto w2c_B10;
   }
@@ -92716,7 +93634,7 @@ static void w2c_f140(Z_dine_ffi_instance_t* instance, u64 w2c_p0, u64 w2c_p1, u6
   w2c_j0 <<= (w2c_j1 & 63);
   w2c_i0 = (u32)(w2c_j0);
   w2c_j1 = w2c_p3;
-  i64_store(&instance->w2c_memory, (u64)(w2c_i0) + 1060608, w2c_j1);
+  i64_store(&instance->w2c_memory, (u64)(w2c_i0) + 1060480, w2c_j1);
   w2c_B10:;
   w2c_j0 = w2c_p3;
   w2c_i0 = !(w2c_j0);
@@ -92731,13 +93649,13 @@ static void w2c_f140(Z_dine_ffi_instance_t* instance, u64 w2c_p0, u64 w2c_p1, u6
     w2c_i0 = (u32)(w2c_j0);
     w2c_j1 = w2c_p3;
     w2c_i1 = (u32)(w2c_j1);
-    w2c_j1 = i64_load(&instance->w2c_memory, (u64)(w2c_i1) + 1062656u);
+    w2c_j1 = i64_load(&instance->w2c_memory, (u64)(w2c_i1) + 1062528u);
     w2c_j2 = 18446744073709551614ull;
     w2c_i3 = w2c_l10;
     w2c_j3 = (u64)(w2c_i3);
     w2c_j2 = I64_ROTL(w2c_j2, w2c_j3);
     w2c_j1 &= w2c_j2;
-    i64_store(&instance->w2c_memory, (u64)(w2c_i0) + 1062656, w2c_j1);
+    i64_store(&instance->w2c_memory, (u64)(w2c_i0) + 1062528, w2c_j1);
   }
   w2c_j0 = w2c_l5;
   w2c_i0 = (u32)(w2c_j0);
@@ -92758,7 +93676,7 @@ static void w2c_f140(Z_dine_ffi_instance_t* instance, u64 w2c_p0, u64 w2c_p1, u6
   w2c_j1 = w2c_l9;
   w2c_i0 = w2c_j0 == w2c_j1;
   if (w2c_i0) {
-    w2c_i0 = 1062704u;
+    w2c_i0 = 1062576u;
     w2c_j1 = w2c_p3;
     i64_store(&instance->w2c_memory, (u64)(w2c_i0), w2c_j1);
     goto w2c_B13;
@@ -92805,7 +93723,7 @@ static void w2c_f140(Z_dine_ffi_instance_t* instance, u64 w2c_p0, u64 w2c_p1, u6
   w2c_j1 = w2c_l9;
   w2c_i0 = w2c_j0 == w2c_j1;
   if (w2c_i0) {
-    w2c_i0 = 1062704u;
+    w2c_i0 = 1062576u;
     w2c_j1 = w2c_p3;
     i64_store(&instance->w2c_memory, (u64)(w2c_i0), w2c_j1);
     goto w2c_B16;
@@ -92816,13 +93734,13 @@ static void w2c_f140(Z_dine_ffi_instance_t* instance, u64 w2c_p0, u64 w2c_p1, u6
   i64_store(&instance->w2c_memory, (u64)(w2c_i0) + 8, w2c_j1);
   w2c_B16:;
   w2c_j0 = w2c_l5;
-  w2c_f138(instance, w2c_j0);
+  w2c_f142(instance, w2c_j0);
   w2c_j0 = w2c_p1;
   w2c_l4 = w2c_j0;
   goto w2c_B0;
   w2c_B5:;
   w2c_j0 = w2c_p3;
-  w2c_j0 = w2c_f137(instance, w2c_j0);
+  w2c_j0 = w2c_f141(instance, w2c_j0);
   w2c_l4 = w2c_j0;
   w2c_i0 = !(w2c_j0);
   w2c_i0 = !(w2c_i0);
@@ -92840,7 +93758,7 @@ static void w2c_f140(Z_dine_ffi_instance_t* instance, u64 w2c_p0, u64 w2c_p1, u6
       memory_copy(&instance->w2c_memory, &instance->w2c_memory, w2c_i0, w2c_i1, w2c_i2);
     }
     w2c_j0 = w2c_l5;
-    w2c_f138(instance, w2c_j0);
+    w2c_f142(instance, w2c_j0);
   }
   w2c_j0 = w2c_l4;
   w2c_j1 = 0ull;
@@ -92863,7 +93781,7 @@ static u64 w2c_room(Z_dine_ffi_instance_t* instance, u64 w2c_p0) {
   FUNC_PROLOGUE;
   u64 w2c_j0;
   w2c_j0 = w2c_p0;
-  w2c_j0 = w2c_f137(instance, w2c_j0);
+  w2c_j0 = w2c_f141(instance, w2c_j0);
   FUNC_EPILOGUE;
   return w2c_j0;
 }
@@ -92877,49 +93795,49 @@ static void w2c_reset(Z_dine_ffi_instance_t* instance) {
   w2c_l0 = w2c_j0;
   w2c_L0: 
     w2c_j0 = w2c_l0;
-    w2c_j1 = 1062712ull;
+    w2c_j1 = 1062584ull;
     w2c_j0 += w2c_j1;
     w2c_i0 = (u32)(w2c_j0);
     w2c_j1 = 0ull;
     i64_store(&instance->w2c_memory, (u64)(w2c_i0), w2c_j1);
     w2c_j0 = w2c_l0;
-    w2c_j1 = 1062704ull;
+    w2c_j1 = 1062576ull;
     w2c_j0 += w2c_j1;
     w2c_i0 = (u32)(w2c_j0);
     w2c_j1 = 0ull;
     i64_store(&instance->w2c_memory, (u64)(w2c_i0), w2c_j1);
     w2c_j0 = w2c_l0;
-    w2c_j1 = 1062696ull;
+    w2c_j1 = 1062568ull;
     w2c_j0 += w2c_j1;
     w2c_i0 = (u32)(w2c_j0);
     w2c_j1 = 0ull;
     i64_store(&instance->w2c_memory, (u64)(w2c_i0), w2c_j1);
     w2c_j0 = w2c_l0;
-    w2c_j1 = 1062688ull;
+    w2c_j1 = 1062560ull;
     w2c_j0 += w2c_j1;
     w2c_i0 = (u32)(w2c_j0);
     w2c_j1 = 0ull;
     i64_store(&instance->w2c_memory, (u64)(w2c_i0), w2c_j1);
     w2c_j0 = w2c_l0;
-    w2c_j1 = 1062680ull;
+    w2c_j1 = 1062552ull;
     w2c_j0 += w2c_j1;
     w2c_i0 = (u32)(w2c_j0);
     w2c_j1 = 0ull;
     i64_store(&instance->w2c_memory, (u64)(w2c_i0), w2c_j1);
     w2c_j0 = w2c_l0;
-    w2c_j1 = 1062672ull;
+    w2c_j1 = 1062544ull;
     w2c_j0 += w2c_j1;
     w2c_i0 = (u32)(w2c_j0);
     w2c_j1 = 0ull;
     i64_store(&instance->w2c_memory, (u64)(w2c_i0), w2c_j1);
     w2c_j0 = w2c_l0;
-    w2c_j1 = 1062664ull;
+    w2c_j1 = 1062536ull;
     w2c_j0 += w2c_j1;
     w2c_i0 = (u32)(w2c_j0);
     w2c_j1 = 0ull;
     i64_store(&instance->w2c_memory, (u64)(w2c_i0), w2c_j1);
     w2c_j0 = w2c_l0;
-    w2c_j1 = 1062656ull;
+    w2c_j1 = 1062528ull;
     w2c_j0 += w2c_j1;
     w2c_i0 = (u32)(w2c_j0);
     w2c_j1 = 0ull;
@@ -92931,29 +93849,29 @@ static void w2c_reset(Z_dine_ffi_instance_t* instance) {
     w2c_j1 = 0ull;
     w2c_i0 = w2c_j0 != w2c_j1;
     if (w2c_i0) {goto w2c_L0;}
-  w2c_i0 = 1062696u;
-  w2c_i1 = 1062688u;
+  w2c_i0 = 1062568u;
+  w2c_i1 = 1062560u;
   w2c_j1 = i64_load(&instance->w2c_memory, (u64)(w2c_i1));
   i64_store(&instance->w2c_memory, (u64)(w2c_i0), w2c_j1);
-  w2c_i0 = 1062680u;
+  w2c_i0 = 1062552u;
   w2c_j1 = 0ull;
   i64_store(&instance->w2c_memory, (u64)(w2c_i0), w2c_j1);
-  w2c_i0 = 1062672u;
+  w2c_i0 = 1062544u;
   w2c_j1 = 0ull;
   i64_store(&instance->w2c_memory, (u64)(w2c_i0), w2c_j1);
-  w2c_i0 = 1062664u;
+  w2c_i0 = 1062536u;
   w2c_j1 = 0ull;
   i64_store(&instance->w2c_memory, (u64)(w2c_i0), w2c_j1);
-  w2c_i0 = 1062656u;
+  w2c_i0 = 1062528u;
   w2c_j1 = 0ull;
   i64_store(&instance->w2c_memory, (u64)(w2c_i0), w2c_j1);
-  w2c_i0 = 1062704u;
+  w2c_i0 = 1062576u;
   w2c_j1 = 0ull;
   i64_store(&instance->w2c_memory, (u64)(w2c_i0), w2c_j1);
   FUNC_EPILOGUE;
 }
 
-static void w2c_f143(Z_dine_ffi_instance_t* instance, u64 w2c_p0, u64 w2c_p1, u64 w2c_p2, u64 w2c_p3) {
+static void w2c_f147(Z_dine_ffi_instance_t* instance, u64 w2c_p0, u64 w2c_p1, u64 w2c_p2, u64 w2c_p3) {
   u64 w2c_l4 = 0, w2c_l5 = 0;
   FUNC_PROLOGUE;
   u32 w2c_i0;
@@ -93018,7 +93936,7 @@ static void w2c_f143(Z_dine_ffi_instance_t* instance, u64 w2c_p0, u64 w2c_p1, u6
   FUNC_EPILOGUE;
 }
 
-static void w2c_f144(Z_dine_ffi_instance_t* instance, u64 w2c_p0, u64 w2c_p1, u64 w2c_p2, u32 w2c_p3) {
+static void w2c_f148(Z_dine_ffi_instance_t* instance, u64 w2c_p0, u64 w2c_p1, u64 w2c_p2, u32 w2c_p3) {
   u64 w2c_l4 = 0, w2c_l5 = 0;
   FUNC_PROLOGUE;
   u32 w2c_i0, w2c_i1, w2c_i2, w2c_i3;
@@ -93270,6 +94188,11 @@ u64 Z_dine_ffiZ_dine_raw_world_replay(Z_dine_ffi_instance_t* instance, u64 w2c_p
 /* export: 'dine_raw_world_step' */
 u64 Z_dine_ffiZ_dine_raw_world_step(Z_dine_ffi_instance_t* instance, u64 w2c_p0, u64 w2c_p1) {
   return w2c_dine_raw_world_step(instance, w2c_p0, w2c_p1);
+}
+
+/* export: 'dine_raw_site_turn' */
+u64 Z_dine_ffiZ_dine_raw_site_turn(Z_dine_ffi_instance_t* instance, u64 w2c_p0, u64 w2c_p1, u64 w2c_p2, u64 w2c_p3) {
+  return w2c_dine_raw_site_turn(instance, w2c_p0, w2c_p1, w2c_p2, w2c_p3);
 }
 
 /* export: 'dine_raw_plan_builder_turns' */

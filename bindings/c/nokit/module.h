@@ -154,6 +154,9 @@ u64 Z_dine_ffiZ_dine_raw_world_replay(Z_dine_ffi_instance_t*, u64, u64, u64);
 /* export: 'dine_raw_world_step' */
 u64 Z_dine_ffiZ_dine_raw_world_step(Z_dine_ffi_instance_t*, u64, u64);
 
+/* export: 'dine_raw_site_turn' */
+u64 Z_dine_ffiZ_dine_raw_site_turn(Z_dine_ffi_instance_t*, u64, u64, u64, u64);
+
 /* export: 'dine_raw_plan_builder_turns' */
 u64 Z_dine_ffiZ_dine_raw_plan_builder_turns(Z_dine_ffi_instance_t*, u64, u32, u32, u32);
 

@@ -21,13 +21,13 @@ The rules are those of ``libdine.so``, which are proved. This package is only te
 
 from ._builder import PlanBuilder
 from ._causes import MAX_EDGES, MAX_JOBS, MAX_NAME, MAX_NUMBER, MAX_SITES, MAX_TURNS, Cause
-from ._core import (LETTER_MAX, PAIR, DineError, Event, Kind, Period, Phase, Place, Plan, Site, Status, World, edge_of,
+from ._core import (LETTER_MAX, PAIR, DineError, Event, Kind, Period, Phase, Place, Plan, Site, Status, Turn, World,
                     run_number)
 from ._table import AsyncSeat, Closed, Gone, InMeal, Meal, OpenTable, Ran, Seat, Stay, Table, TableClosed, TimedOut
 
 __all__ = [
     "LETTER_MAX", "MAX_EDGES", "MAX_JOBS", "MAX_NAME", "MAX_NUMBER", "MAX_SITES", "MAX_TURNS", "PAIR", "AsyncSeat",
     "Cause", "Closed", "DineError", "Event", "Gone", "InMeal", "Kind", "Meal", "OpenTable", "Period", "Phase", "Place",
-    "Plan", "PlanBuilder", "Ran", "Seat", "Site", "Status", "Stay", "Table", "TableClosed", "TimedOut", "World",
-    "edge_of", "run_number",
+    "Plan", "PlanBuilder", "Ran", "Seat", "Site", "Status", "Stay", "Table", "TableClosed", "TimedOut", "Turn", "World",
+    "run_number",
 ]

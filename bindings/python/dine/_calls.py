@@ -30,7 +30,7 @@ class SiteState(Structure):
 
 
 class Place(Structure):
-    _fields_ = [(it, c_uint32) for it in ("edge", "neighbour", "has_fork", "has_token", "is_dirty")]
+    _fields_ = [(it, c_uint32) for it in ("edge", "neighbour", "has_fork", "has_token", "is_dirty", "is_closed")]
 
 
 CALLS = {
@@ -65,6 +65,7 @@ CALLS = {
     "dine_site_shut": [POINTER(Handle), Number, POINTER(c_uint8), c_size_t],
     "dine_site_break": [POINTER(Handle), Number, POINTER(c_uint8), c_size_t],
     "dine_site_act": [POINTER(Handle), POINTER(Event), POINTER(c_uint8), c_size_t],
+    "dine_site_turn": [POINTER(Handle), POINTER(Event), POINTER(c_uint8), c_size_t],
     "dine_site_take": [POINTER(Handle), POINTER(c_uint8), c_size_t],
     "dine_site_begin": [POINTER(Handle)],
     "dine_site_end": [POINTER(Handle), c_bool],

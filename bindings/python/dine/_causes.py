@@ -10,7 +10,7 @@ MAX_EDGES = 512
 MAX_TURNS = 1_000_000
 #: The greatest number of bytes of a name.
 MAX_NAME = 32
-#: The greatest number of jobs of a site, and so of the meals that are due to an end of an edge.
+#: The greatest number of jobs of a site.
 MAX_JOBS = 1_000
 #: The greatest amount of an act, and the greatest value of an edge before the first meal.
 MAX_NUMBER = 1_000_000

@@ -28,13 +28,6 @@ _calls.declare(_LIB)
 
 # No letter has more bytes.
 LETTER_MAX = 29
-# Where the kind of a letter is, behind the number of its run, and the kind of Close.
-_KIND_AT, _CLOSE = 8, 4
-
-
-def edge_of(letter: bytes) -> int:
-    """The edge that a letter names."""
-    return int.from_bytes(letter[_KIND_AT + 1 : _KIND_AT + 5], "little")
 
 
 def run_number(text: str, random: int) -> int:
@@ -72,6 +65,8 @@ class Status(IntEnum):
     LETTER_UNLAWFUL = -13
     LETTER_EDGE = -14
     OTHER_RUN = -15
+    WAITS = -16
+    FINISHED = -17
     # words breaches, by tools/words
     #: A letter after Close.
     AFTER_CLOSE = -21
@@ -106,6 +101,8 @@ _WORDS: dict[int, str] = {
     Status.LETTER_UNLAWFUL: "the neighbour cannot have done that with the fork",
     Status.LETTER_EDGE: "the letter is of an edge that the site does not have",
     Status.OTHER_RUN: "the letter is of another run",
+    Status.WAITS: "the site can do nothing before it takes a letter",
+    Status.FINISHED: "the site has done all, and put and taken all letters",
     # words breaches said, by tools/words
     Status.AFTER_CLOSE: "a letter after Close",
     Status.REQUEST_OUT_OF_TURN: (
@@ -206,6 +203,14 @@ class Event(_Event):
         return super().__new__(cls, index(site), Kind(index(kind)), index(place))
 
 
+class Turn(NamedTuple):
+    """What a site did in a turn: the event, and the letter that it put, empty if none. The event is None if the site
+    can do nothing before it takes a letter, or has finished."""
+
+    event: Event | None
+    letter: bytes
+
+
 class Period(NamedTuple):
     """A stay of a fork at one end: the site, the number of its first meal, and the number of its meals."""
 
@@ -215,13 +220,15 @@ class Period(NamedTuple):
 
 
 class Place(NamedTuple):
-    """What a site has at one of its edges. ``is_dirty``: the fork is here, in a meal or eaten with since it came."""
+    """What a site has at one of its edges. ``is_dirty``: the fork is here, in a meal or eaten with since it came.
+    ``is_closed``: Close was taken there."""
 
     edge: int
     neighbour: int
     has_fork: bool
     has_token: bool
     is_dirty: bool
+    is_closed: bool = False
 
 
 _Own = TypeVar("_Own", bound="_Owner")
@@ -590,6 +597,8 @@ class World(_Owner):
 
 
 def _raw(event: Event) -> _calls.Event:
+    if 0 <= event.site < 2**32 and 0 <= event.place < 2**32:
+        return _calls.Event(*event)
     return _calls.Event(*map(_calls.Number.from_param, event))
 
 
@@ -603,6 +612,7 @@ class Site(_Owner):
     >>> b.act(b.next()), b.next()
     (b'', Event(site=1, kind=<Kind.ASK: 6>, place=0))
     >>> a.take(b.act(b.next()))
+    0
     >>> a.next()
     Event(site=0, kind=<Kind.GIVE: 1>, place=0)
     """
@@ -613,9 +623,10 @@ class Site(_Owner):
             raise ValueError(f"the number of a run has 64 bits, and {run} is none")
         self.plan = _plan(plan)
         self.number, self.run = site, run
-        # The edges of places that were broken off, and those over which Close has come.
+        # Where the library writes a letter.
+        self._room = (c_uint8 * LETTER_MAX)()
+        # The edges of places that were broken off.
         self._broken: set[int] = set()
-        self._ended: set[int] = set()
         with self.plan._lock:
             _answer(_LIB.dine_site_open_in(byref(self.plan._handle), site, run, byref(self._handle)))
 
@@ -648,7 +659,8 @@ class Site(_Owner):
     def _place(self, i: int) -> Place:
         place = _calls.Place()
         self._call(_LIB.dine_site_place, i, byref(place))
-        return Place(place.edge, place.neighbour, place.has_fork == 1, place.has_token == 1, place.is_dirty == 1)
+        flags = place.has_fork, place.has_token, place.is_dirty, place.is_closed
+        return Place(place.edge, place.neighbour, *[it == 1 for it in flags])
 
     def next(self) -> Event | None:
         """The first event that it may do without a letter."""
@@ -657,6 +669,27 @@ class Site(_Owner):
             return None
         return Event(event.site, event.kind, event.place)
 
+    def turn(self) -> Turn:
+        """Does that event, and returns it with the letter that it puts. After Begin do the job, and call ``end``.
+
+        Raises ``DineError`` with the status -7 during a meal.
+
+        >>> a, b = Site(PAIR, 0), Site(PAIR, 1)
+        >>> b.turn()
+        Turn(event=Event(site=1, kind=<Kind.HUNGRY: 5>, place=0), letter=b'')
+        >>> a.take(b.turn().letter)
+        0
+        >>> b.turn()
+        Turn(event=None, letter=b'')
+        """
+        event = _calls.Event()
+        with self._lock:
+            size = _LIB.dine_site_turn(byref(self._handle), byref(event), self._room, LETTER_MAX)
+            if size in (Status.WAITS, Status.FINISHED):
+                return Turn(None, b"")
+            letter = bytes(self._room)[:_answer(size)]
+        return Turn(Event(event.site, event.kind, event.place), letter)
+
     def act(self, event: Event | None) -> bytes:
         """Does the event, and returns the letter that it puts, empty if none. Begin and End are ``begin``, ``end``.
 
@@ -664,30 +697,22 @@ class Site(_Owner):
         """
         if event is None:
             raise TypeError("there is no event: next() returned None")
-        site, kind, place = event if isinstance(event, Event) else Event(*event)
-        if site != self.number:
+        event = event if isinstance(event, Event) else Event(*event)
+        if event.kind in (Kind.BEGIN, Kind.END):
             raise DineError(-4)
-        if kind in _STEPS:
-            self._call(_STEPS[kind])
-            return b""
-        if kind not in _PUTS:
-            raise DineError(-4)
-        return self._put(_PUTS[kind], place)
+        return self._put(_LIB.dine_site_act, byref(_raw(event)))
 
-    def _put(self, call: Any, place: int) -> bytes:
-        room = (c_uint8 * LETTER_MAX)()
-        size = self._call(call, place, room, LETTER_MAX)
-        return bytes(room[:size])
+    def _put(self, call: Any, what: Any) -> bytes:
+        with self._lock:
+            size = self._call(call, what, self._room, LETTER_MAX)
+            return bytes(self._room)[:size]
 
-    def take(self, letter: bytes) -> None:
-        """Takes a letter, also while the site eats.
+    def take(self, letter: bytes) -> int:
+        """Takes a letter, also while the site eats, and returns the place at which it arrived.
 
         Raises ``DineError`` if it is none that is allowed now, and then nothing has changed.
         """
-        with self._lock:
-            self._call(_LIB.dine_site_take, _buffer(letter), len(letter))
-            if letter[_KIND_AT] == _CLOSE:
-                self._ended.add(edge_of(letter))
+        return self._call(_LIB.dine_site_take, _buffer(letter), len(letter))
 
     def break_off(self, place: int) -> bytes:
         """Gives the link of a place up, as after the loss of its connection. Returns the letter, which is Close.
@@ -712,7 +737,7 @@ class Site(_Owner):
             event, places = self.next(), self.places
             if event.kind is Kind.HUNGRY if event else self.phase is Phase.HUNGRY:
                 return any(it.edge in self._broken and not it.has_fork for it in places)
-            return event is None and all(it.edge in self._broken | self._ended for it in places)
+            return event is None and all(it.is_closed or it.edge in self._broken for it in places)
 
     def begin(self) -> None:
         """Begins a meal."""
@@ -736,11 +761,6 @@ class Site(_Owner):
                 return f"<Site {self.number}: closed>"
             return f"<Site {self.number}: {self.phase.name.lower()}, {self.ate} meals>"
 
-
-# The calls of events that put no letter, and of those that put one.
-_STEPS = {Kind.HUNGRY: _LIB.dine_site_hungry, Kind.QUIT: _LIB.dine_site_quit}
-_PUTS = {Kind.GIVE: _LIB.dine_site_give, Kind.ASK: _LIB.dine_site_ask, Kind.DONE: _LIB.dine_site_done,
-         Kind.CLOSE: _LIB.dine_site_shut}
 
 PAIR = """version = 1
 [[site]]

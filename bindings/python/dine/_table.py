@@ -15,7 +15,7 @@ from typing import Any, Callable, Iterable, Iterator, MutableMapping, NamedTuple
 
 from ._builder import PlanBuilder
 from ._causes import MAX_EDGES, MAX_JOBS, MAX_NAME, MAX_SITES, Cause
-from ._core import DineError, Event, Kind, Plan, Site, World, edge_of
+from ._core import DineError, Event, Kind, Plan, Site, World
 
 #: The meals that a site has at most. Once a site has eaten them, all sites are opened anew.
 MEALS = MAX_JOBS
@@ -199,8 +199,6 @@ class _Desk:
         self.inbox: deque[bytes] = deque()
         self.queue: deque[_Waiter] = deque()
         self.places: list[_Place] = []
-        # The place of each edge.
-        self.where: dict[int, int] = {}
         self.before = self.ate = self.empty = 0
         self.site: Site
         self.eats = self.is_counted = False
@@ -248,7 +246,6 @@ class OpenTable:
             desk.set(Site(self._plan, desk.number))
             names = list(table.workers)
             desk.places = [_Place(it.edge, it.neighbour, names[it.neighbour]) for it in desk.site.places]
-            desk.where = {place.edge: i for i, place in enumerate(desk.places)}
 
     def __repr__(self) -> str:
         return f"<OpenTable of {', '.join(self._numbers)}: {self._stage}>"
@@ -364,9 +361,7 @@ class OpenTable:
     def _advance(self, desk: _Desk, is_open: bool) -> set[int]:
         todo: set[int] = set()
         while desk.inbox:
-            letter = desk.inbox.popleft()
-            self._note(desk, Kind.TAKE, desk.where[edge_of(letter)])
-            desk.site.take(letter)
+            self._note(desk, Kind.TAKE, desk.site.take(desk.inbox.popleft()))
         while not desk.eats and (event := desk.site.next()):
             if event.kind is Kind.HUNGRY and is_open and not desk.queue:
                 break

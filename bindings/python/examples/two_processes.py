@@ -39,14 +39,13 @@ def run(number: int, random: int, sock: socket.socket) -> str:
     site = Site(PLAN, number, run=run_number(PLAN, random))
     letters = 0
     while not site.is_finished:
-        event = site.next()
+        event, letter = site.turn()
         if event is None:
             site.take(receive(sock))
             letters += 1
         elif event.kind is Kind.BEGIN:
-            site.begin()  # here the process does its job
-            site.end()
-        elif letter := site.act(event):
+            site.end()  # before this call the process does its job
+        elif letter:
             send(sock, letter)
     here = [f"edge {p.edge}: {site.log(i)}, value {site.value(i)}" for i, p in enumerate(site.places) if p.has_fork]
     return f"process {os.getpid()}, site {number}: {site.ate} meals, took {letters} letters. {' '.join(here)}"

@@ -11,7 +11,7 @@ import threading
 from concurrent.futures import ThreadPoolExecutor
 
 import pytest
-from dine import (PAIR, Cause, DineError, Event, Kind, Period, Phase, Place, Plan, Site, Status, World, edge_of,
+from dine import (PAIR, Cause, DineError, Event, Kind, Period, Phase, Place, Plan, Site, Status, Turn, World,
                   run_number)
 
 # Three sites in a row, the middle one of which resigns after a job that fails.
@@ -121,12 +121,11 @@ def exchange(sites, boxes):
     letters = [[], []]
     while not all(site.is_finished for site in sites):
         for me in (0, 1):
-            while event := sites[me].next():
-                if event.kind is Kind.BEGIN:
-                    sites[me].begin()
+            while (turn := sites[me].turn()).event is not None:
+                if turn.event.kind is Kind.BEGIN:
                     sites[me].end()
-                elif letter := sites[me].act(event):
-                    boxes[1 - me].append(letter)
+                elif turn.letter:
+                    boxes[1 - me].append(turn.letter)
             while boxes[me]:
                 letters[me].append(boxes[me].pop(0))
                 sites[me].take(letters[me][-1])
@@ -150,6 +149,17 @@ def test_a_site_takes_letters_while_it_eats():
     assert a.phase is Phase.EATING
     a.end()
     assert a.next() == Event(0, Kind.GIVE, 0)
+
+
+def test_a_turn_does_the_next_event():
+    site = Site(PAIR, 0)
+    for kind in (Kind.HUNGRY, Kind.BEGIN):
+        assert site.next() == Event(0, kind) and site.turn() == Turn(Event(0, kind), b"")
+    with pytest.raises(DineError, match="the site eats"):
+        site.turn()
+    site.end()
+    assert site.turn() == Turn(Event(0, Kind.DONE, 0), word(3)) and site.turn() == Turn(None, b"")
+    assert site.phase is Phase.THINKING and not site.is_finished
 
 
 def test_a_closed_world_answers():
@@ -255,7 +265,7 @@ def test_what_is_seen_of_a_world_is_what_sites_have():
             edge = site.places[place].edge
             world.step(event)
             if event.kind is Kind.TAKE:
-                site.take(links[edge, event.site].pop(0))
+                assert site.take(links[edge, event.site].pop(0)) == place
             elif event.kind is Kind.BEGIN:
                 site.begin()
             elif event.kind is Kind.END:
@@ -270,7 +280,7 @@ def test_what_is_seen_of_a_world_is_what_sites_have():
                     assert p.is_dirty == (p.has_fork and seen.dirty[p.edge])
                     kinds = "".join(" FRDC"[letter[8]] for letter in links.get((p.edge, n), []))
                     assert seen.letters[p.edge][seen.ends[p.edge].index(n)] == kinds
-        assert all(it.is_finished for it in sites)
+        assert all(it.is_finished and all(place.is_closed for place in it.places) for it in sites)
 
 
 # ---- Calls that are easily confused
@@ -368,12 +378,11 @@ def test_a_site_whose_neighbour_is_lost():
     sites[1].break_off(1)
     for _ in range(20):
         for me in (0, 1):
-            while event := sites[me].next():
-                if event.kind is Kind.BEGIN:
-                    sites[me].begin()
+            while (turn := sites[me].turn()).event is not None:
+                if turn.event.kind is Kind.BEGIN:
                     sites[me].end()
-                elif letter := sites[me].act(event):
-                    boxes[1 - me].append(letter)
+                elif turn.letter:
+                    boxes[1 - me].append(turn.letter)
             while boxes[me]:
                 sites[me].take(boxes[me].pop(0))
     assert (sites[0].ate, sites[0].is_finished, sites[0].is_stuck) == (1, True, False)
@@ -392,7 +401,7 @@ def test_a_late_letter_of_an_older_run(older, run):
     b.act(b.next())
     a.take(b.act(b.next()))
     late = a.act(a.next())
-    assert late[:8] == older.to_bytes(8, "little") and edge_of(late) == 0
+    assert late[:8] == older.to_bytes(8, "little")
     a, b = (Site(PAIR, n, run=run) for n in (0, 1))
     a.act(a.next())
     a.begin()

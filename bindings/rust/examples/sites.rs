@@ -1,5 +1,5 @@
 //! Two sites in two threads, which have nothing in common but a pair of sockets: `cargo run --example sites`.
-use dine::{run_number, Kind, Plan, Site};
+use dine::{run_number, Kind, Plan, Site, Turn};
 use std::collections::hash_map::RandomState;
 use std::hash::{BuildHasher, Hasher};
 use std::io::{Read, Write};
@@ -26,20 +26,18 @@ fn receive(mut socket: &UnixStream) -> Result<Vec<u8>> {
 
 fn run(number: u32, random: u64, neighbour: &UnixStream) -> Result<String> {
     let mut site = Site::open_in(&Plan::read(PLAN)?, number, run_number(PLAN, random))?;
-    while !site.is_finished() {
-        match site.next() {
+    loop {
+        match site.turn()? {
             // It can do nothing before the next letter.
-            None => site.take(&receive(neighbour)?)?,
-            Some(Kind::Begin) => {
-                site.begin()?;
-                // Here it does its job. `true` says that the job failed.
-                site.end(false)?;
+            Turn::Waits => {
+                site.take(&receive(neighbour)?)?;
             }
+            // Before this call it does its job. `true` says that the job failed.
+            Turn::Did(Kind::Begin, _) => site.end(false)?,
+            Turn::Did(_, []) => {}
             // The letter goes to `site.place(p)?.neighbour`, if p is the place of the kind, such as `Kind::Give(p)`.
-            Some(kind) => match site.act(kind)? {
-                [] => {}
-                letter => send(neighbour, letter)?,
-            },
+            Turn::Did(_, letter) => send(neighbour, letter)?,
+            Turn::Finished => break,
         }
     }
     let log = if site.place(0)?.has_fork { format!(", and has the fork: {:?}", site.log(0)?) } else { String::new() };

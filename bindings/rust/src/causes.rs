@@ -9,7 +9,7 @@ pub const MAX_EDGES: u32 = 512;
 pub const MAX_TURNS: u32 = 1_000_000;
 /// The greatest number of bytes of a name.
 pub const MAX_NAME: u32 = 32;
-/// The greatest number of jobs of a site, and so of the meals that are due to an end of an edge.
+/// The greatest number of jobs of a site.
 pub const MAX_JOBS: u32 = 1_000;
 /// The greatest amount of an act, and the greatest value of an edge before the first meal.
 pub const MAX_NUMBER: u32 = 1_000_000;

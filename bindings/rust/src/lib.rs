@@ -21,10 +21,9 @@ mod table;
 /// No letter has more bytes.
 pub const LETTER_MAX: usize = 29;
 
-// Where the kind of a letter is, behind the number of its run. Its edge follows.
-const KIND_AT: usize = 8;
-// The kind of Close.
-const CLOSE: u8 = 4;
+// What a turn returns if there is no event.
+const WAITS: i64 = -16;
+const FINISHED: i64 = -17;
 
 use std::cell::UnsafeCell;
 use std::fmt;
@@ -204,12 +203,6 @@ fn answer(status: i64) -> Result<u64> {
     }
 }
 
-/// The edge that a letter names; `None` if the bytes are too few for a letter.
-pub fn edge_of(letter: &[u8]) -> Option<u32> {
-    let bytes = letter.get(KIND_AT + 1..KIND_AT + 5)?;
-    Some(u32::from_le_bytes(bytes.try_into().ok()?))
-}
-
 /// A number for a run of the plan with this text, for [`Site::open_in`]. `random` is drawn once for each run, and all
 /// processes of the run are told it. A process that has another text, or was told of another run, has another number,
 /// unless chance has it. It is FNV-1a of the eight bytes of `random`, the least first, and of the text: no defence
@@ -293,6 +286,18 @@ impl Kind {
             _ => return None,
         })
     }
+}
+
+/// What a site did in a turn, or why it did nothing.
+#[derive(Clone, Copy, Debug, PartialEq, Eq, Hash)]
+pub enum Turn<'a> {
+    /// It did this event, and put this letter, which is empty if the event puts none. After [`Kind::Begin`] do the job,
+    /// and call [`Site::end`].
+    Did(Kind, &'a [u8]),
+    /// It can do nothing before it takes a letter.
+    Waits,
+    /// It has done all, and put and taken all letters.
+    Finished,
 }
 
 /// An event of a world.
@@ -577,6 +582,8 @@ pub struct Place {
     pub has_token: bool,
     /// Whether the fork is here and dirty: it is in the meal, or was eaten with since it came.
     pub is_dirty: bool,
+    /// Whether Close was taken there.
+    pub is_closed: bool,
 }
 
 /// One site. It may go to another thread, and its letters are bytes.
@@ -594,10 +601,10 @@ pub struct Place {
 /// ```
 pub struct Site {
     handle: Handle,
+    number: u32,
     room: Box<[u8]>,
-    // The edges of places that were broken off, and those over which Close has come.
+    // The edges of places that were broken off.
     broken: Vec<u32>,
-    closed: Vec<u32>,
 }
 
 impl Site {
@@ -613,7 +620,7 @@ impl Site {
         let handle = Handle::closed();
         answer(unsafe { sys::dine_site_open_in(plan.handle.get(), site, run, handle.get()) })?;
         let room = vec![0; LETTER_MAX].into_boxed_slice();
-        Ok(Site { handle, room, broken: Vec::new(), closed: Vec::new() })
+        Ok(Site { handle, number: site, room, broken: Vec::new() })
     }
 
     fn state(&self) -> sys::SiteState {
@@ -646,8 +653,14 @@ impl Site {
     pub fn place(&self, place: u32) -> Result<Place> {
         let mut raw = sys::Place::default();
         answer(unsafe { sys::dine_site_place(self.handle.get(), place, &mut raw) })?;
-        let sys::Place { edge, neighbour, has_fork, has_token, is_dirty } = raw;
-        Ok(Place { edge, neighbour, has_fork: has_fork == 1, has_token: has_token == 1, is_dirty: is_dirty == 1 })
+        Ok(Place {
+            edge: raw.edge,
+            neighbour: raw.neighbour,
+            has_fork: raw.has_fork == 1,
+            has_token: raw.has_token == 1,
+            is_dirty: raw.is_dirty == 1,
+            is_closed: raw.is_closed == 1,
+        })
     }
 
     /// The first event that it may do without a letter.
@@ -659,20 +672,49 @@ impl Site {
         }
     }
 
+    /// Does that event, and returns it with the letter that it puts. After [`Kind::Begin`] do the job, and call
+    /// [`Site::end`].
+    ///
+    /// ```
+    /// # let text = "version = 1\n[[site]]\nname = \"a\"\njobs = [{ name = \"x\" }]\n";
+    /// use dine::{Kind, Turn};
+    /// let mut site = dine::Site::open(&dine::Plan::read(text)?, 0)?;
+    /// loop {
+    ///     match site.turn()? {
+    ///         Turn::Did(Kind::Begin, _) => site.end(false)?, // the job is done before this call
+    ///         Turn::Did(_, letter) => assert_eq!(letter, []), // else it is for a neighbour
+    ///         Turn::Waits => unreachable!("no neighbour has a letter for this site"),
+    ///         Turn::Finished => break,
+    ///     }
+    /// }
+    /// assert_eq!(site.ate(), 1);
+    /// # Ok::<(), dine::Error>(())
+    /// ```
+    ///
+    /// # Errors
+    ///
+    /// `Eating` during a meal.
+    pub fn turn(&mut self) -> Result<Turn<'_>> {
+        let (mut raw, out, room) = (sys::Event::default(), self.room.as_mut_ptr(), self.room.len());
+        let status = unsafe { sys::dine_site_turn(self.handle.get(), &mut raw, out, room) };
+        match status {
+            WAITS => return Ok(Turn::Waits),
+            FINISHED => return Ok(Turn::Finished),
+            _ => {}
+        }
+        let len = answer(status)? as usize;
+        let kind = Kind::of(raw.kind, raw.place).ok_or(Error::Other(status))?;
+        Ok(Turn::Did(kind, &self.room[..len]))
+    }
+
     /// Does an event that is none of a meal and takes no letter. Returns the letter that it puts, empty if none.
     pub fn act(&mut self, kind: Kind) -> Result<&[u8]> {
-        let (handle, out, room) = (self.handle.get(), self.room.as_mut_ptr(), self.room.len());
-        let len = answer(unsafe {
-            match kind {
-                Kind::Give(i) => sys::dine_site_give(handle, i, out, room),
-                Kind::Ask(i) => sys::dine_site_ask(handle, i, out, room),
-                Kind::Done(i) => sys::dine_site_done(handle, i, out, room),
-                Kind::Close(i) => sys::dine_site_shut(handle, i, out, room),
-                Kind::Hungry => sys::dine_site_hungry(handle),
-                Kind::Quit => sys::dine_site_quit(handle),
-                Kind::Take(_) | Kind::Begin | Kind::End => return Err(Error::NoSuch),
-            }
-        })?;
+        if let Kind::Begin | Kind::End = kind {
+            return Err(Error::NoSuch);
+        }
+        let ((kind, place), out, room) = (kind.numbers(), self.room.as_mut_ptr(), self.room.len());
+        let event = sys::Event { site: self.number, kind, place };
+        let len = answer(unsafe { sys::dine_site_act(self.handle.get(), &event, out, room) })?;
         Ok(&self.room[..len as usize])
     }
 
@@ -693,7 +735,7 @@ impl Site {
         }
         let places: Vec<_> = (0..self.degree()).filter_map(|i| self.place(i).ok()).collect();
         let is_lost = |it: &Place| !it.has_fork && self.broken.contains(&it.edge);
-        let is_over = |it: &Place| self.broken.contains(&it.edge) || self.closed.contains(&it.edge);
+        let is_over = |it: &Place| it.is_closed || self.broken.contains(&it.edge);
         match (self.phase(), self.next()) {
             (Phase::Hungry, None) | (_, Some(Kind::Hungry)) => places.iter().any(is_lost),
             (_, None) => places.iter().all(is_over),
@@ -701,13 +743,11 @@ impl Site {
         }
     }
 
-    /// Takes a letter, also while the site eats. If the bytes are no letter that is allowed now, nothing changes.
-    pub fn take(&mut self, letter: &[u8]) -> Result<()> {
-        answer(unsafe { sys::dine_site_take(self.handle.get(), letter.as_ptr(), letter.len()) })?;
-        if letter.get(KIND_AT) == Some(&CLOSE) {
-            self.closed.extend(edge_of(letter));
-        }
-        Ok(())
+    /// Takes a letter, also while the site eats, and returns the place at which it arrived. If the bytes are no letter
+    /// that is allowed now, nothing changes.
+    pub fn take(&mut self, letter: &[u8]) -> Result<u32> {
+        let place = answer(unsafe { sys::dine_site_take(self.handle.get(), letter.as_ptr(), letter.len()) })?;
+        Ok(place as u32)
     }
 
     /// Begins a meal.

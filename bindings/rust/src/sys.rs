@@ -38,6 +38,7 @@ pub struct Place {
     pub has_fork: u32,
     pub has_token: u32,
     pub is_dirty: u32,
+    pub is_closed: u32,
 }
 
 extern "C" {
@@ -187,6 +188,12 @@ extern "C" {
     pub fn dine_site_act(
         handle: *mut Handle,
         event: *const Event,
+        out: *mut u8,
+        out_len: usize,
+    ) -> i64;
+    pub fn dine_site_turn(
+        handle: *mut Handle,
+        event: *mut Event,
         out: *mut u8,
         out_len: usize,
     ) -> i64;

@@ -1,5 +1,6 @@
 //! Tries plans, worlds and sites by a pair.
-use dine::{edge_of, Breach, Cause, Error, Event, Kind, LetterFault, Period, Phase, Place, Plan, Position, Site, World};
+use dine::{Breach, Cause, Error, Event, Kind, LetterFault, Period, Phase, Place, Plan, Position, Site};
+use dine::{Turn, World};
 
 const PAIR: &str = "version = 1\n[[site]]\nname = \"a\"\njobs = [{ name = \"x\" }]\n\
     [[site]]\nname = \"b\"\njobs = [{ name = \"y\" }]\n[[edge]]\nends = [\"a\", \"b\"]\n";
@@ -45,16 +46,12 @@ fn a_text_that_is_no_plan_is_refused() {
 }
 
 fn run(site: &mut Site, letters: &mut Vec<Vec<u8>>) {
-    while let Some(kind) = site.next() {
-        match kind {
-            Kind::Begin => site.begin().unwrap(),
-            Kind::End => site.end(false).unwrap(),
-            kind => {
-                let letter = site.act(kind).unwrap().to_vec();
-                if !letter.is_empty() {
-                    letters.push(letter);
-                }
-            }
+    while let Turn::Did(kind, letter) = site.turn().unwrap() {
+        if !letter.is_empty() {
+            letters.push(letter.to_vec());
+        }
+        if kind == Kind::Begin {
+            site.end(false).unwrap();
         }
     }
 }
@@ -78,6 +75,47 @@ fn two_sites_exchange_letters() {
     assert_eq!((a.ate(), b.ate()), (1, 1));
     let p = |site, first, count| Period { site, first, count };
     assert_eq!(b.log(0).unwrap(), [p(0, 1, 1), p(1, 1, 1)]);
+}
+
+// One pair of sites by turns, and one by the events that `next` names: they do the same.
+#[test]
+fn a_turn_does_the_next_event() {
+    let (_, mut by_turns) = path();
+    let (_, mut by_events) = path();
+    let (mut idle, mut at) = (0, 0);
+    while idle < 3 {
+        let (one, other) = (&mut by_turns[at], &mut by_events[at]);
+        let mut letters = Vec::new();
+        idle += 1;
+        while let Some(kind) = other.next() {
+            idle = 0;
+            let letter = if kind == Kind::Begin { Vec::new() } else { other.act(kind).unwrap().to_vec() };
+            assert_eq!(one.turn(), Ok(Turn::Did(kind, &letter)));
+            match kind {
+                Kind::Give(i) | Kind::Ask(i) | Kind::Done(i) | Kind::Close(i) => {
+                    letters.push((other.place(i).unwrap().neighbour as usize, letter));
+                }
+                Kind::Begin => {
+                    assert_eq!(one.turn(), Err(Error::Eating));
+                    other.begin().unwrap();
+                    let failed = other.ate() == 2;
+                    other.end(failed).unwrap();
+                    one.end(failed).unwrap();
+                }
+                _ => {}
+            }
+        }
+        assert_eq!(one.turn(), Ok(if other.is_finished() { Turn::Finished } else { Turn::Waits }));
+        for (to, letter) in letters {
+            let place = by_turns[to].take(&letter).unwrap();
+            assert_eq!(by_turns[to].place(place).unwrap().neighbour as usize, at);
+            assert_eq!(by_events[to].take(&letter), Ok(place));
+        }
+        at = (at + 1) % 3;
+    }
+    assert!(by_turns.iter().chain(&by_events).all(Site::is_finished));
+    assert!(by_turns.iter().all(|it| (0..it.degree()).all(|i| it.place(i).unwrap().is_closed)));
+    assert_eq!(by_turns[1].ate(), 2);
 }
 
 #[test]
@@ -179,7 +217,7 @@ fn a_late_letter_of_an_older_run() {
         b.act(Kind::Hungry).unwrap();
         a.take(b.act(Kind::Ask(0)).unwrap()).unwrap();
         let late = a.act(Kind::Give(0)).unwrap().to_vec();
-        assert_eq!((&late[..8], edge_of(&late), edge_of(&late[..12])), (&older.to_le_bytes()[..], Some(0), None));
+        assert_eq!(&late[..8], &older.to_le_bytes()[..]);
         // In the next run a eats, and b waits for the fork. The late one would let it eat too.
         let [mut a, mut b] = open(run);
         a.act(Kind::Hungry).unwrap();
@@ -232,9 +270,13 @@ fn each_letter_that_is_refused_by_name() {
     let (mut to_a, mut to_b) = (Vec::new(), Vec::new());
     while !(a.is_finished() && b.is_finished()) {
         run(&mut a, &mut to_b);
-        to_b.drain(..).for_each(|it| b.take(&it).unwrap());
+        for it in to_b.drain(..) {
+            b.take(&it).unwrap();
+        }
         run(&mut b, &mut to_a);
-        to_a.drain(..).for_each(|it| a.take(&it).unwrap());
+        for it in to_a.drain(..) {
+            a.take(&it).unwrap();
+        }
     }
     assert_eq!(a.take(&done), breach(Breach::AfterClose));
 }
@@ -261,8 +303,12 @@ fn a_site_whose_neighbour_is_lost() {
     for _ in 0..20 {
         run(&mut a, &mut to_b);
         run(&mut b, &mut to_a);
-        to_b.drain(..).for_each(|it| b.take(&it).unwrap());
-        to_a.drain(..).for_each(|it| a.take(&it).unwrap());
+        for it in to_b.drain(..) {
+            b.take(&it).unwrap();
+        }
+        for it in to_a.drain(..) {
+            a.take(&it).unwrap();
+        }
     }
     assert!((a.ate(), a.is_finished(), a.is_stuck()) == (1, true, false));
     assert!((b.ate(), b.is_finished(), b.is_stuck()) == (3, false, true) && c.is_stuck());

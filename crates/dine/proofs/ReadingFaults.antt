@@ -1,5 +1,5 @@
 -- The faults that end the reading of a plan, by their origin.
-use Rattle.std.proofs.Common.{◌≡◌, ◌≢◌, ◌⊎◌, ◌<◌, ◌≤◌, List, ℕ, Option, Some, Result, Ok, Err, IfErr, IfSome, IsErrAnd, length, inl, inr, refl, sym, ap, subst}
+use Rattle.std.proofs.Common.{arith, ◌≡◌, ◌≢◌, ◌⊎◌, ◌<◌, ◌≤◌, List, ℕ, Option, Some, Result, Ok, Err, IfErr, IfSome, IsErrAnd, length, inl, inr, refl, sym, ap, subst}
 use Rattle.std.specs.Io.KnownBytes.{IsAtEnd}
 use Rattle.std.proofs.lemmas.Option.{IfSome_then}
 use Rattle.dine_draft.specs.declared.plan_fault.PlanFault.{PlanFault}
@@ -15,26 +15,7 @@ use Rattle.dine.specs.declared.fault_lines.Fault.TheVariants as fault
 
 -- a cause is a failed allocation, or it is the cause of the fault
 decided : (cause : PlanFault) → (cause ≡ text.Memory) ⊎ ((cause ≢ text.Memory) × (fault_of_text cause ≡ fault.NoPlan cause))
-decided text.NotToml = inr (λ e. absurd cc, refl)
-decided text.Version = inr (λ e. absurd cc, refl)
-decided text.UnknownKey = inr (λ e. absurd cc, refl)
-decided text.MissingKey = inr (λ e. absurd cc, refl)
-decided text.WrongKind = inr (λ e. absurd cc, refl)
-decided (text.BadName site) = inr (λ e. absurd cc, refl)
-decided (text.SiteTwice site) = inr (λ e. absurd cc, refl)
-decided text.NoSite = inr (λ e. absurd cc, refl)
-decided text.TooManySites = inr (λ e. absurd cc, refl)
-decided (text.TooManyJobs site) = inr (λ e. absurd cc, refl)
-decided (text.TurnsTooLarge site) = inr (λ e. absurd cc, refl)
-decided (text.UnknownEnd edge) = inr (λ e. absurd cc, refl)
-decided (text.Loop edge) = inr (λ e. absurd cc, refl)
-decided (text.EdgeTwice edge) = inr (λ e. absurd cc, refl)
-decided text.TooManyEdges = inr (λ e. absurd cc, refl)
-decided (text.TwoActs site) = inr (λ e. absurd cc, refl)
-decided (text.ActTooLarge site) = inr (λ e. absurd cc, refl)
-decided (text.ValueTooLarge edge) = inr (λ e. absurd cc, refl)
-decided (text.UnknownPolicy site) = inr (λ e. absurd cc, refl)
-decided text.Memory = inl refl
+decided cause = grind arith
 
 -- a cause that is not a failed allocation is the cause of the fault
 pub is_no_plan : (cause : PlanFault) → cause ≢ text.Memory → fault_of_text cause ≡ fault.NoPlan cause

@@ -15,7 +15,8 @@ use Rattle.dine_site_thread.specs.declared.diner.Call.{Call}
 use Rattle.dine_threads.specs.declared.gathered.SiteOut.{SiteOut}
 use Rattle.dine_site_thread.specs.Diners.{HasLastFailed, StopsAtFailed, meals_called, failed_in, shows_quit}
 use Rattle.dine_site_thread.specs.declared.manner.Manner.{Manner}
-use Rattle.dine_site_thread.specs.declared.manner.Manner.TheVariants.{Greedy}
+use Rattle.dine_site_thread.specs.declared.manner.Manner.TheVariants.{Patient}
+use Rattle.dine.specs.declared.run_text.TheConstants.{RUN_PATIENCE}
 use Rattle.dine_threads.specs.Gathered.{AreFinishedOuts, AreOutsOf, IsFinishedOut, IsOutOf}
 use Rattle.dine_threads.specs.Headline.{IsHeadline}
 use Rattle.dine_threads.specs.declared.tables.EdgeRow.{EdgeRow}
@@ -180,10 +181,10 @@ diner_expects plan diners are s diner at =
 
 module _ (plan : SeenPlan) (forks : List SeenFork) (outs : List (SiteOut SeenPlanDiner)) where
   abbrev AreOuts : Type 0
-  AreOuts = AreOutsOf plan_diner Greedy plan (diners_of plan) outs
+  AreOuts = AreOutsOf plan_diner (Patient RUN_PATIENCE) plan (diners_of plan) outs
 
   -- each site was left by its own diner
-  left_at : AreOuts → (s : ℕ) (out : SiteOut SeenPlanDiner) → slice_get outs s ≡ Some out → IsOutOf plan_diner Greedy plan s (diner_of plan s) out
+  left_at : AreOuts → (s : ℕ) (out : SiteOut SeenPlanDiner) → slice_get outs s ≡ Some out → IsOutOf plan_diner (Patient RUN_PATIENCE) plan s (diner_of plan s) out
   left_at are s out at = are.each s (diner_of plan s) out (diner_at plan s (omega (arith, slice_get_within outs s out at, are.count))) at
 
   -- so it is at each site
@@ -197,12 +198,12 @@ module _ (plan : SeenPlan) (forks : List SeenFork) (outs : List (SiteOut SeenPla
 
   -- what `run` returns has the rows of the plan
   pub due_rows : (links : List SeenLink) (diners : List SeenPlanDiner) → diners ≡ diners_of plan → IsPlan plan → IsHeadline plan (map (λ (out : SiteOut SeenPlanDiner). out.ate) outs) links forks
-      → AreOutsOf plan_diner Greedy plan diners outs → AreFinishedOuts plan outs
+      → AreOutsOf plan_diner (Patient RUN_PATIENCE) plan diners outs → AreFinishedOuts plan outs
       → ((plan : SeenPlan) (edge low_ate high_ate : ℕ) (log : List Entry) → IsPlan plan → edge < edge_count plan → has_no_set plan ≡ true → IsWholeLog plan edge low_ate high_ate log → value_by plan edge log ≡ value_by_amounts plan edge low_ate high_ate)
       → HasDueRows plan forks outs
   due_rows links diners same is_plan headline left finished adds =
-      let are = subst (λ (ds : List SeenPlanDiner). AreOutsOf plan_diner Greedy plan ds outs) same left in
-      let gathered = headline_gathered plan forks outs links Greedy plan_diner (diners_of plan) (diner_count plan) headline are in
+      let are = subst (λ (ds : List SeenPlanDiner). AreOutsOf plan_diner (Patient RUN_PATIENCE) plan ds outs) same left in
+      let gathered = headline_gathered plan forks outs links (Patient RUN_PATIENCE) plan_diner (diners_of plan) (diner_count plan) headline are in
       let eaten : (s : ℕ) (out : SiteOut SeenPlanDiner) → slice_get outs s ≡ Some out → out.ate ≡ meals_at plan s = λ s out at. ate_at plan s out (left_at are s out at) (finished s out at) in
       record {
         is_plan = is_plan;

@@ -1,6 +1,6 @@
 -- What each command does, with the bytes that are left in the input and the bytes that are in the output.
-use Rattle.std.specs.Prelude.{◌≡◌, ◌≢◌, ◌<◌, ◌∷◌, List, ℕ, Option, Some, None, IfSome, length, take}
-use Rattle.std.specs.Io.KnownBytes.{Appends, Keeps}
+use Rattle.std.specs.Prelude.{◌≡◌, ◌≢◌, ◌<◌, ◌≤◌, ◌∷◌, List, ℕ, Option, Some, None, IfSome, false, length, take}
+use Rattle.std.specs.Io.KnownBytes.{Appends, IsAtEnd}
 use Rattle.dine_graph.specs.Plan.{SeenPlan}
 use Rattle.dine_draft.specs.declared.plan_fault.PlanFault.{PlanFault}
 use Rattle.dine.specs.declared.fault_lines.Fault.{Fault}
@@ -13,7 +13,7 @@ use Rattle.dine_words.specs.Check.{check_text}
 use Rattle.dine_words.specs.PlanBytes.{IsPlanBytes, fault_of_bytes}
 use Rattle.dine_log_text.specs.Replay.{replay_text}
 use Rattle.dine.specs.Run.{IsRunText, NamesSite, IsFaultOfRun}
-use Rattle.dine_words.specs.Words.{Asked, Runs, Replays, Checks}
+use Rattle.dine_words.specs.Words.{AreRight, Asked, Checks, HasNoFault, Replays, Runs, are_taken, command_in, dine_app}
 use Rattle.dine_words.specs.declared.words.Links.{Links}
 use Rattle.dine_words.specs.declared.words.Table.{Table}
 
@@ -90,16 +90,46 @@ pub record IsFailedRun (command : Option Asked) (reported : Fault) (left : Optio
   pub names : NamesSite plan reported
   pub is_fault : IsFaultOfRun plan reported
 
--- How a fault ended the program. The cause has the status, and a beginning of its line was written, maybe none or all
--- of it. The output is unchanged, unless writing failed: then a beginning of the text was written. If the plan is
--- refused, the cause is the one for which the bytes are refused. If a run failed, the command is a run, and the cause
--- is one that a run of the plan may return. If the input is too long, it has more bytes than the limit.
-pub record EndsByFault (command : Option Asked) (ended : Status) (left before after faults_before faults_after : Option (List ℕ)) : Type 0 where
-  pub cause : Fault
-  pub ends_so : status_of cause ≡ ended
-  pub reported : IsLineBegun (line_of cause) faults_before faults_after
-  pub unwritten : cause ≢ fault.WritingFailed → Keeps before after
-  pub part_written : cause ≡ fault.WritingFailed → IsPartDone command left before after
+-- The arguments are checked first, and the program ends with this status. Unless they or an allocation end it, they are
+-- right. If they end it, they are refused, or ask for no command, and nothing was read.
+pub record ChecksArguments (arguments : List (List ℕ)) {R : Type 0} (input_before input_after : R) (ended : Status) : Type 0 where
+  pub accepted : ended ≢ status.Usage → ended ≢ status.OutOfMemory → AreRight dine_app arguments
+  pub usage : ended ≡ status.Usage → are_taken dine_app arguments ≡ false
+  pub asks_nothing : ended ≡ status.Usage → HasNoFault dine_app arguments → command_in dine_app arguments ≡ None
+  pub unread : ended ≡ status.Usage → input_after ≡ input_before
+
+-- How a command ends with a status: what it read of the bytes that were left in the input, with those left after it,
+-- and what it wrote to the output. At success it read a plan to the end of the input, and wrote its whole text. If it
+-- refused the plan, it read to the end too, and the bytes are the text of no plan. The output is unchanged if the
+-- status is neither success nor that of a failed read or write; and, whatever the status, if the input is too long, or
+-- was not read to its end.
+pub record Ends (command : Option Asked) (left left_after : Option (List ℕ)) {W : Type 0} (contents : W → Option (List ℕ)) (before after : W) (ended : Status) : Type 0 where
+  pub done : ended ≡ status.Success → IsDone command left (contents before) (contents after)
+  pub read_to_end : ended ≡ status.Success → IsAtEnd left_after
+  pub within : ended ≡ status.Success → IfSome left (λ bytes. length bytes ≤ input_limit)
+  pub plan_refused : ended ≡ status.PlanRefused → IfSome left IsRefused
+  pub refused_at_end : ended ≡ status.PlanRefused → IsAtEnd left_after
+  pub refused_within : ended ≡ status.PlanRefused → IfSome left (λ bytes. length bytes ≤ input_limit)
+  pub plan_taken : IsPlanLeft left → ended ≢ status.PlanRefused
+  pub unwritten : ended ≢ status.Success → ended ≢ status.InputOutput → after ≡ before
+  pub too_long : IsTooLong left → after ≡ before
+  pub not_read : IsByteLeft left_after → after ≡ before
+
+-- A fault is the cause for which a command ended. The output is unchanged, unless writing failed: then a beginning of
+-- the text was written. If the plan is refused, the cause is the one for which the bytes are refused. If a run failed,
+-- the command is a run, and the cause is one that a run of the plan may return. If the input is too long, it has more
+-- bytes than the limit.
+pub record IsCause (command : Option Asked) (left : Option (List ℕ)) {W : Type 0} (contents : W → Option (List ℕ)) (before after : W) (cause : Fault) : Type 0 where
+  pub unwritten : cause ≢ fault.WritingFailed → after ≡ before
+  pub part_written : cause ≡ fault.WritingFailed → IsPartDone command left (contents before) (contents after)
   pub has_cause : HasCauseOf cause left
   pub failed_run : status_of cause ≡ status.RunFailed → IsFailedRun command cause left
   pub too_long : cause ≡ fault.InputTooLong → IfSome left (λ bytes. input_limit < length bytes)
+
+-- How a fault ended the program: the cause of the command has the status, and a beginning of its line was written,
+-- maybe none or all of it.
+pub record EndsByFault (MayBeCause : Fault → Type 0) (faults_before faults_after : Option (List ℕ)) (ended : Status) : Type 0 where
+  pub cause : Fault
+  pub may_be : MayBeCause cause
+  pub ends_so : status_of cause ≡ ended
+  pub reported : IsLineBegun (line_of cause) faults_before faults_after

@@ -1,5 +1,5 @@
 -- The faults that end a command, and the line that reports each.
-use Rattle.std.specs.Prelude.{ℕ, List, [], ◌∷◌, ◌++◌, Option, codes}
+use Rattle.std.specs.Prelude.{ℕ, List, [], ◌∷◌, ◌++◌, Err, Ok, Option, Result, codes}
 use Rattle.std.specs.declared.io.ErrorKind.{ErrorKind}
 use Rattle.std.specs.declared.io.ErrorKind.TheVariants as kind
 use Rattle.dine_draft.specs.Fault.{plan_fault_words}
@@ -29,6 +29,11 @@ status_of fault.OutOfMemory = status.OutOfMemory
 status_of fault.ReadingFailed = status.InputOutput
 status_of fault.InputTooLong = status.InputOutput
 status_of fault.WritingFailed = status.InputOutput
+
+-- the status with which the program ends for what a command returned
+abbrev pub status_after : {T : Type 0} → Result T Fault → Status
+status_after (Ok _) = status.Success
+status_after (Err cause) = status_of cause
 
 -- the fault of the program for a fault of the arguments
 abbrev pub fault_of_words : WordsFault → Fault

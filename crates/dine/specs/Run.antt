@@ -7,7 +7,8 @@ use Rattle.dine_token.specs.Fork.{SeenFork}
 use Rattle.dine_threads.specs.declared.causes.RunCause.TheVariants as run_cause
 use Rattle.dine_threads.specs.declared.gathered.RunFault.{RunFault}
 use Rattle.dine_threads.specs.declared.gathered.SiteOut.{SiteOut}
-use Rattle.dine_site_thread.specs.declared.manner.Manner.TheVariants.{Greedy}
+use Rattle.dine_site_thread.specs.declared.manner.Manner.TheVariants.{Patient}
+use Rattle.dine.specs.declared.run_text.TheConstants.{RUN_PATIENCE}
 use Rattle.dine_threads.specs.Headline.{FaultIs}
 use Rattle.dine_threads.specs.Tables.{AreDueValues, IsGatheredOf, edge_rows, site_rows, due_edge_rows, due_site_rows}
 use Rattle.dine.specs.PlanDiners.{SeenPlanDiner, fails_of, first_word, plan_diner}
@@ -72,5 +73,5 @@ pub record IsFaultOfRun (plan : SeenPlan) (reported : Fault) : Type 0 where
   pub diners : Vec SeenPlanDiner
   pub of_plan : diners.items ≡ diners_of plan
   pub returned : RunFault SeenPlanDiner
-  pub may_return : FaultIs plan_diner Greedy plan diners returned
+  pub may_return : FaultIs plan_diner (Patient RUN_PATIENCE) plan diners returned
   pub is_same : reported ≡ fault_of_run returned

@@ -1,14 +1,12 @@
 //! From arguments and input to output and status.
-ghost use Rattle.std.specs.Prelude.{◌≡◌, ◌≢◌, ◌<◌, ◌≤◌, IfErr, IfOk, IfSome, IsErrOf, None, OnErr, OnOk, Some};
-ghost use Rattle.std.specs.Prelude.{false, length, map, true, string_bytes};
+ghost use Rattle.std.specs.Prelude.{◌≡◌, ◌≢◌, ◌≤◌, IfErr, IfOk, IfSome, OnOk, Some, length, map, string_bytes};
 ghost use Rattle.std.specs.Io.KnownBytes.{IsAtEnd};
-ghost use Rattle.dine.specs.Commands.{EndsByFault, FailsRun, IsDone, IsFailedRun, IsPartDone, IsPlanLeft, IsRefused};
-ghost use Rattle.dine.specs.Commands.{HasCauseOf, IsByteLeft, IsTextOf, IsTooLong};
-ghost use Rattle.dine.specs.FaultLines.{status_of};
+ghost use Rattle.dine.specs.Commands.{ChecksArguments, Ends, EndsByFault, FailsRun, IsCause, IsTextOf};
+ghost use Rattle.dine.specs.FaultLines.{status_after};
 ghost use Rattle.dine_words.specs.Input.{input_limit};
 ghost use Rattle.dine_words.specs.PlanBytes.{IsPlanBytes};
 ghost use Rattle.dine.specs.private.InputFaults.{IsInputFault};
-ghost use Rattle.dine_words.specs.Words.{AreRight, HasNoFault, are_taken, asked_of, command_in, dine_app};
+ghost use Rattle.dine_words.specs.Words.{asked_of, command_in, dine_app};
 
 use crate::fault_lines::Fault;
 use crate::run_text::run_text;
@@ -43,37 +41,13 @@ pub fn run_cmd<H: Threads + Wait + Copy + Send + 'static, R: Read, W: Write, F: 
     output: &mut W,
     faults: &mut F,
 ) -> Status
-    // The arguments are checked first: unless they or an allocation end the command, they are right.
-    ensures accepted { result ≢ Status.Usage → result ≢ Status.OutOfMemory
-        → AreRight dine_app (map string_bytes arguments.now) }
-
-    // At success the command read a plan to the end of the input, and wrote its whole text.
-    ensures done { result ≡ Status.Success
-        → IsDone (command_in dine_app (map string_bytes arguments.now)) (R.remaining input.old)
-        (W.contents output.old) (W.contents output.new) }
-    ensures read_to_end { result ≡ Status.Success → IsAtEnd (R.remaining input.new) }
-    ensures within { result ≡ Status.Success → IfSome (R.remaining input.old) (λ bytes. length bytes ≤ input_limit) }
+    ensures arguments { ChecksArguments (map string_bytes arguments.now) input.old input.new result }
+    ensures ends { Ends (command_in dine_app (map string_bytes arguments.now)) (R.remaining input.old)
+        (R.remaining input.new) W.contents output.old output.new result }
     ensures quiet { result ≡ Status.Success → faults.new ≡ faults.old }
-
-    // When each fault may occur.
-    ensures usage { result ≡ Status.Usage → are_taken dine_app (map string_bytes arguments.now) ≡ false }
-    ensures asks_nothing { result ≡ Status.Usage → HasNoFault dine_app (map string_bytes arguments.now)
-        → command_in dine_app (map string_bytes arguments.now) ≡ None }
-    ensures plan_refused { result ≡ Status.PlanRefused → IfSome (R.remaining input.old) IsRefused }
-    ensures refused_at_end { result ≡ Status.PlanRefused → IsAtEnd (R.remaining input.new) }
-    ensures refused_within { result ≡ Status.PlanRefused
-        → IfSome (R.remaining input.old) (λ bytes. length bytes ≤ input_limit) }
-    ensures plan_taken { IsPlanLeft (R.remaining input.old) → result ≢ Status.PlanRefused }
-
-    // What a fault leaves behind.
-    ensures unread { result ≡ Status.Usage → input.new ≡ input.old }
-    ensures unwritten { result ≢ Status.Success → result ≢ Status.InputOutput → output.new ≡ output.old }
-    ensures too_long { IsTooLong (R.remaining input.old) → output.new ≡ output.old }
-    ensures not_read { IsByteLeft (R.remaining input.new) → output.new ≡ output.old }
-    ensures ended { result ≢ Status.Success
-        → EndsByFault (command_in dine_app (map string_bytes arguments.now)) result
-        (R.remaining input.old) (W.contents output.old) (W.contents output.new)
-        (F.contents faults.old) (F.contents faults.new) }
+    ensures by_fault { result ≢ Status.Success
+        → EndsByFault (IsCause (command_in dine_app (map string_bytes arguments.now)) (R.remaining input.old)
+        W.contents output.old output.new) (F.contents faults.old) (F.contents faults.new) result }
 {
     match command(rt, alloc, arguments, input, output) {
         Ok(()) => Status::Success,
@@ -89,34 +63,11 @@ fn command<H: Threads + Wait + Copy + Send + 'static, R: Read, W: Write>(
     input: &mut R,
     output: &mut W,
 ) -> Result<(), Fault>
-    ensures accepted { result ≢ Err Fault.Usage → result ≢ Err Fault.OutOfMemory
-        → AreRight dine_app (map string_bytes arguments.now) }
-    ensures done { OnOk result
-        (IsDone (command_in dine_app (map string_bytes arguments.now)) (R.remaining input.old)
-        (W.contents output.old) (W.contents output.new)) }
-    ensures end { OnOk result (IsAtEnd (R.remaining input.new)) }
-    ensures within { OnOk result (IfSome (R.remaining input.old) (λ bytes. length bytes ≤ input_limit)) }
-    ensures too_long { IsErrOf result Fault.InputTooLong
-        → IfSome (R.remaining input.old) (λ bytes. input_limit < length bytes) }
-    ensures usage { IsErrOf result Fault.Usage → are_taken dine_app (map string_bytes arguments.now) ≡ false }
-    ensures asks_nothing { IsErrOf result Fault.Usage → HasNoFault dine_app (map string_bytes arguments.now)
-        → command_in dine_app (map string_bytes arguments.now) ≡ None }
-    ensures unread { IsErrOf result Fault.Usage → input.new ≡ input.old }
-    ensures refused { IfErr result (λ fault. status_of fault ≡ Status.PlanRefused
-        → IfSome (R.remaining input.old) IsRefused) }
-    ensures cause { IfErr result (λ fault. HasCauseOf fault (R.remaining input.old)) }
-    ensures refused_end { IfErr result (λ fault. status_of fault ≡ Status.PlanRefused
-        → IsAtEnd (R.remaining input.new)) }
-    ensures failed_run { IfErr result (λ fault. status_of fault ≡ Status.RunFailed
-        → IsFailedRun (command_in dine_app (map string_bytes arguments.now)) fault (R.remaining input.old)) }
-    ensures refused_within { IfErr result (λ fault. status_of fault ≡ Status.PlanRefused
-        → IfSome (R.remaining input.old) (λ bytes. length bytes ≤ input_limit)) }
-    ensures unwritten { result ≢ Err Fault.WritingFailed → OnErr result (output.new ≡ output.old) }
-    ensures unwritten_too_long { IsTooLong (R.remaining input.old) → output.new ≡ output.old }
-    ensures unwritten_not_read { IsByteLeft (R.remaining input.new) → output.new ≡ output.old }
-    ensures part { IsErrOf result Fault.WritingFailed
-        → IsPartDone (command_in dine_app (map string_bytes arguments.now)) (R.remaining input.old)
-        (W.contents output.old) (W.contents output.new) }
+    ensures arguments { ChecksArguments (map string_bytes arguments.now) input.old input.new (status_after result) }
+    ensures ends { Ends (command_in dine_app (map string_bytes arguments.now)) (R.remaining input.old)
+        (R.remaining input.new) W.contents output.old output.new (status_after result) }
+    ensures cause { IfErr result (IsCause (command_in dine_app (map string_bytes arguments.now)) (R.remaining input.old)
+        W.contents output.old output.new) }
 {
     let command = command_of(alloc, arguments)?;
     carry_out(rt, alloc, command, input, output)
@@ -130,28 +81,11 @@ fn carry_out<H: Threads + Wait + Copy + Send + 'static, R: Read, W: Write>(
     input: &mut R,
     output: &mut W,
 ) -> Result<(), Fault>
-    ensures done { OnOk result (IsDone (Some (asked_of command)) (R.remaining input.old)
-        (W.contents output.old) (W.contents output.new)) }
-    ensures end { OnOk result (IsAtEnd (R.remaining input.new)) }
-    ensures within { OnOk result (IfSome (R.remaining input.old) (λ bytes. length bytes ≤ input_limit)) }
     ensures no_usage { result ≢ Err Fault.Usage }
-    ensures too_long { IsErrOf result Fault.InputTooLong
-        → IfSome (R.remaining input.old) (λ bytes. input_limit < length bytes) }
-    ensures refused { IfErr result (λ fault. status_of fault ≡ Status.PlanRefused
-        → IfSome (R.remaining input.old) IsRefused) }
-    ensures cause { IfErr result (λ fault. HasCauseOf fault (R.remaining input.old)) }
-    ensures refused_end { IfErr result (λ fault. status_of fault ≡ Status.PlanRefused
-        → IsAtEnd (R.remaining input.new)) }
-    ensures failed_run { IfErr result (λ fault. status_of fault ≡ Status.RunFailed
-        → IsFailedRun (Some (asked_of command)) fault (R.remaining input.old)) }
-    ensures refused_within { IfErr result (λ fault. status_of fault ≡ Status.PlanRefused
-        → IfSome (R.remaining input.old) (λ bytes. length bytes ≤ input_limit)) }
-    ensures unwritten { result ≢ Err Fault.WritingFailed → OnErr result (output.new ≡ output.old) }
-    ensures unwritten_too_long { IsTooLong (R.remaining input.old) → output.new ≡ output.old }
-    ensures unwritten_not_read { IsByteLeft (R.remaining input.new) → output.new ≡ output.old }
-    ensures part { IsErrOf result Fault.WritingFailed
-        → IsPartDone (Some (asked_of command)) (R.remaining input.old)
-        (W.contents output.old) (W.contents output.new) }
+    ensures ends { Ends (Some (asked_of command)) (R.remaining input.old) (R.remaining input.new) W.contents
+        output.old output.new (status_after result) }
+    ensures cause { IfErr result (IsCause (Some (asked_of command)) (R.remaining input.old) W.contents
+        output.old output.new) }
 {
     let plan = plan_in(alloc, input)?;
     let text = text_of(rt, alloc, command, &plan)?;

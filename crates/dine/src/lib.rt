@@ -15,5 +15,5 @@ pub use dine_log_text::world_text;
 pub use dine_words::{Status, exit_of};
 pub use fault_lines::Fault;
 pub use plan_diner::PlanDiner;
-pub use run_text::open_diners;
+pub use run_text::{RUN_PATIENCE, open_diners};
 pub use tables::{write_edges, write_sites};

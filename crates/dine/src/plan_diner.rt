@@ -57,7 +57,7 @@ impl Model for PlanDiner {
 
 impl PlanDiner {
     /// Returns a diner for the jobs of a site, whose number is below `sites` of the plan. It has no call yet, and
-    /// capacity for one call for each job, 0 to 1,000.
+    /// capacity for one call for each job.
     ///
     /// # Errors
     ///

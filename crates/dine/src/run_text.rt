@@ -16,6 +16,10 @@ use std::alloc::{AllocError, Global};
 use std::sync::Wait;
 use std::thread::Threads;
 
+/// The patience of the sites of a run. The table does not show how long a neighbour waits, so it is one of the fastest:
+/// forks move seldom, and yet soon enough that all processors have a site to run.
+pub const RUN_PATIENCE: u32 = 256;
+
 /// Runs the plan, with a thread for each site and links of this kind, and returns the table of the run. It may wait.
 ///
 /// # Errors
@@ -59,8 +63,8 @@ where
 {
     laws::values_are_those_of_the_logs();
     let diners = open_diners(alloc, plan)?;
-    // Sites eat as long as they can: that is the fastest, and the table does not show how long a neighbour waits.
-    let gathered = run_with::<L, PlanDiner>(rt, alloc, plan, diners, RunOptions::greedy())?;
+    let options = RunOptions::patience(RUN_PATIENCE);
+    let gathered = run_with::<L, PlanDiner>(rt, alloc, plan, diners, options)?;
     Ok(table_text(alloc, plan, &gathered, table)?)
 }
 

@@ -37,7 +37,7 @@ struct Arrivals {
     bound: u32,
     // How many sites get tasks: those of the lowest numbers.
     sites: u32,
-    // How many tasks a site may do in an epoch.
+    // How many meals a site may eat in an epoch.
     jobs: u32,
     // Whether the wait of each task is noted.
     noted: bool,
@@ -157,7 +157,7 @@ fn tasks_of(arrivals: Arrivals) -> u64 {
     u64::from(arrivals.submitters).saturating_mul(u64::from(arrivals.tasks))
 }
 
-// Returns a plan with the same sites and edges. Each site resigns, and may do this number of tasks in an epoch.
+// Returns a plan with the same sites and edges. Each site resigns, and may eat this number of meals in an epoch.
 fn plan_of_tasks(alloc: Global, plan: &Plan, jobs: u32) -> Result<Plan> {
     let mut builder = PlanBuilder::open(alloc);
     for site in plan.site_ids() {

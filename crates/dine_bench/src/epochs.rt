@@ -1,5 +1,5 @@
-//! How long the ends of epochs take: each from when a site begins the last task that it may do in its epoch, so that
-//! the epoch is over, until the first task of the next epoch begins.
+//! How long the ends of epochs take: each from when a site begins the last meal that it may eat in its epoch, after
+//! which the epoch is over, until the first task of the next epoch begins.
 
 use anyhow::Result;
 use std::alloc::Global;
@@ -13,7 +13,7 @@ use std::time::Instant;
 #[derive(Drop)]
 pub struct EpochTimes {
     start: Instant,
-    // How many tasks a site may do in an epoch.
+    // How many meals a site may eat in an epoch.
     jobs: u32,
     began: AtomicU64,
     over: AtomicU64,
@@ -30,7 +30,7 @@ impl EpochTimes {
         })
     }
 
-    /// Notes that a site begins its task of this number in the epoch.
+    /// Notes that a site begins a task in its meal of this number in the epoch.
     pub fn note<R: Clock>(&self, rt: &R, k: u32) {
         if k == 1 {
             self.set(rt, &self.began);

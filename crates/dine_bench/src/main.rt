@@ -6,7 +6,7 @@
 //! many meals a site ate while a fork stayed at it. With `--waits` there is a run of `run_jobs` after each, by a clock,
 //! and the middle one of the longest waits of these runs is written, in microseconds.
 //!
-//! With `open` there is an open run over the sites and edges of the plan, of which each site may do JOBS tasks in an
+//! With `open` there is an open run over the sites and edges of the plan, of which each site may eat JOBS meals in an
 //! epoch. A number of SUBMITTERS threads submit TASKS tasks each, to sites that look random, among the first SITES. A
 //! task takes TURNS turns. Between two tasks of a submitter there are GAP nanoseconds, it has WINDOW tickets at most,
 //! and BOUND tasks at most wait for a site: if there are as many, the submitter waits a little and tries again. 0 is

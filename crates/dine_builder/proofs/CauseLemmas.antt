@@ -1,11 +1,13 @@
 -- The causes that a builder's draft never meets.
-use Rattle.std.proofs.Common.{◌≡◌, ◌≢◌, ℕ, true, false, Bool, map, length, Option, Some, None, option_map, sym, subst, ◌∙◌}
+use Rattle.std.proofs.Common.{◌≡◌, ◌≢◌, ◌⊎◌, ◌∙◌, List, ℕ, true, false, Bool, Option, Some, None, option_map, arith, inl, inr, sym, subst}
 use Rattle.std.specs.Option.{option_or}
 use Rattle.std.proofs.lemmas.Option.{same_Some}
-use Rattle.dine_draft.specs.Refusals.{first_some, first_of_draft, on, site_refusals, end_refusals, pair_refusals, act_refusals, joined_by}
+use Rattle.dine_draft.specs.Refusals.{first_some, on, site_refusals, end_refusals, pair_refusals, act_refusals}
 use Rattle.dine_draft.specs.declared.plan_fault.PlanFault.{PlanFault}
 use Rattle.dine_draft.specs.declared.plan_fault.PlanFault.TheVariants as fault
 use Rattle.dine_draft.proofs.shared.PlanLemmas.{first_of_groups}
+use Rattle.dine_graph.specs.Plan.{SeenSite}
+use Rattle.dine_draft.specs.declared.drafts.DraftEdge.{DraftEdge}
 use Rattle.dine_builder.specs.Draft.{Draft}
 use Rattle.dine_builder.specs.DraftPlan.{IsOfDraft, draft_of, first_fault_of}
 
@@ -28,37 +30,31 @@ map_met : (f : ℕ → PlanFault) (o : Option ℕ) → ((i : ℕ) → IsOfDraft 
 map_met f None is g h = absurd (cc)
 map_met f (Some i) is g h = subst IsOfDraft (same_Some _ _ h) (is i)
 
-is_of_draft : (d : Draft) (f : PlanFault) → first_fault_of d ≡ Some f → IsOfDraft f
-unfolding site_refusals end_refusals pair_refusals act_refusals
-is_of_draft d f first =
-    either_met _ _
-    (either_met _ _ (map_met fault.BadName _ (λ i. tt)) (either_met _ _ (map_met fault.SiteTwice _ (λ i. tt)) (either_met _ _ (on_met _ fault.NoSite tt) (either_met _ _ (on_met _ fault.TooManySites tt) (either_met _ _ (map_met fault.TooManyJobs _ (λ i. tt)) (either_met _ _ (map_met fault.TurnsTooLarge _ (λ i. tt)) none_met))))))
-    (either_met _ _
-    (either_met _ _ (map_met fault.UnknownEnd _ (λ i. tt)) (either_met _ _ (map_met fault.Loop _ (λ i. tt)) none_met))
-    (either_met _ _
-    (either_met _ _ (map_met fault.EdgeTwice _ (λ i. tt)) (either_met _ _ (on_met _ fault.TooManyEdges tt) none_met))
-    (either_met _ _ none_met (either_met _ _ (map_met fault.ActTooLarge _ (λ i. tt)) (either_met _ _ (map_met fault.ValueTooLarge _ (λ i. tt)) (either_met _ _ none_met none_met))))))
-    f (sym (first_of_groups (draft_of d)) ∙ first)
+-- each refusal of a list is one that a draft may meet
+sites_met : (most : ℕ) (sites : List SeenSite) → IsMet (first_some (site_refusals most sites))
+unfolding site_refusals
+sites_met most sites = search (either_met, map_met, on_met, none_met) depth 12 fits 200000
 
--- the cause of a refusal that is no want of memory
+ends_met : (n : ℕ) (edges : List DraftEdge) → IsMet (first_some (end_refusals n edges))
+unfolding end_refusals
+ends_met n edges = search (either_met, map_met, on_met, none_met) depth 12 fits 200000
+
+pairs_met : (pairs : List (Option (ℕ × ℕ))) → IsMet (first_some (pair_refusals pairs))
+unfolding pair_refusals
+pairs_met pairs = search (either_met, map_met, on_met, none_met) depth 12 fits 200000
+
+acts_met : (d : Draft) → IsMet (first_some (act_refusals (draft_of d)))
+unfolding act_refusals
+acts_met d = search (either_met, map_met, on_met, none_met) depth 12 fits 200000
+
+is_of_draft : (d : Draft) (f : PlanFault) → first_fault_of d ≡ Some f → IsOfDraft f
+is_of_draft d f first =
+    either_met _ _ (sites_met _ _) (either_met _ _ (ends_met _ _) (either_met _ _ (pairs_met _) (acts_met d))) f (sym (first_of_groups (draft_of d)) ∙ first)
+
+-- a cause is another one than a failed allocation, or one that a draft may meet
+other_or_met : (f : PlanFault) → (f ≢ fault.Memory) ⊎ IsOfDraft f
+other_or_met f = grind arith
+
+-- the cause of a refusal, which may also be a failed allocation
 pub cause_of_draft : (d : Draft) (f : PlanFault) → (f ≢ fault.Memory → first_fault_of d ≡ Some f) → IsOfDraft f
-cause_of_draft d fault.NotToml first = is_of_draft d fault.NotToml (first (λ e. let no : fault.NotToml ≡ fault.Memory = e in cc))
-cause_of_draft d fault.Version first = is_of_draft d fault.Version (first (λ e. let no : fault.Version ≡ fault.Memory = e in cc))
-cause_of_draft d fault.UnknownKey first = is_of_draft d fault.UnknownKey (first (λ e. let no : fault.UnknownKey ≡ fault.Memory = e in cc))
-cause_of_draft d fault.MissingKey first = is_of_draft d fault.MissingKey (first (λ e. let no : fault.MissingKey ≡ fault.Memory = e in cc))
-cause_of_draft d fault.WrongKind first = is_of_draft d fault.WrongKind (first (λ e. let no : fault.WrongKind ≡ fault.Memory = e in cc))
-cause_of_draft d (fault.TwoActs site) first = is_of_draft d (fault.TwoActs site) (first (λ e. let no : fault.TwoActs site ≡ fault.Memory = e in cc))
-cause_of_draft d (fault.UnknownPolicy site) first = is_of_draft d (fault.UnknownPolicy site) (first (λ e. let no : fault.UnknownPolicy site ≡ fault.Memory = e in cc))
-cause_of_draft d (fault.BadName site) first = tt
-cause_of_draft d (fault.SiteTwice site) first = tt
-cause_of_draft d fault.NoSite first = tt
-cause_of_draft d fault.TooManySites first = tt
-cause_of_draft d (fault.TooManyJobs site) first = tt
-cause_of_draft d (fault.TurnsTooLarge site) first = tt
-cause_of_draft d (fault.UnknownEnd edge) first = tt
-cause_of_draft d (fault.Loop edge) first = tt
-cause_of_draft d (fault.EdgeTwice edge) first = tt
-cause_of_draft d fault.TooManyEdges first = tt
-cause_of_draft d (fault.ActTooLarge site) first = tt
-cause_of_draft d (fault.ValueTooLarge edge) first = tt
-cause_of_draft d fault.Memory first = tt
+cause_of_draft d f first = elim (other_or_met f) [ inl other ↦ is_of_draft d f (first other) | inr is ↦ is ]

@@ -4,15 +4,16 @@ ghost use Rattle.dine_builder.specs.Draft.{has_edge, has_job, has_site, with_act
 ghost use Rattle.dine_builder.specs.Draft.{with_open_site, with_resigning, with_site, with_turns, with_value};
 
 use crate::absent::Missing;
-use crate::drafts::PlanBuilder;
+use crate::drafts::{EPOCH_JOBS, PlanBuilder};
 use dine_graph::{EdgeId, SiteId};
-use dine_token::{Act, MAX_JOBS};
+use dine_token::Act;
 use std::alloc::AllocError;
 
 impl PlanBuilder {
-    /// Adds a site of this name with `jobs` jobs, and returns its number. At first its jobs take no turns, do not fail
-    /// and add 0, and the site goes on after a job that failed. Of a site with more than 1,000 jobs, which `finish`
-    /// refuses, the first 1,001 are stored.
+    /// Adds a site of this name with `jobs` jobs, which may be any number, and returns the number of the site. At first
+    /// its jobs take no turns, do not fail and add 0, and the site goes on after a job that failed. The first 1,001
+    /// jobs are stored, and can be changed. Those after these are only counted, so a site of a million jobs takes no
+    /// more memory in the plan than one of 1,001.
     ///
     /// # Errors
     ///
@@ -28,8 +29,8 @@ impl PlanBuilder {
         }
     }
 
-    /// Adds a site of this name for an open run, and returns its number: it has 1,000 jobs, which is as many as a site
-    /// may do in an epoch, and resigns.
+    /// Adds a site of this name for an open run, and returns its number: it has 1,000 jobs (`EPOCH_JOBS`), which is as
+    /// many as it does in an epoch, and resigns.
     ///
     /// # Errors
     ///
@@ -39,7 +40,7 @@ impl PlanBuilder {
         ensures changed { OnOk result (self.new ≡ with_open_site name.now self.old) }
         ensures refused { OnErr result (self.new ≡ self.old) }
     {
-        let site = self.site(name, MAX_JOBS)?;
+        let site = self.site(name, EPOCH_JOBS)?;
         self.set_resigning(site.0);
         Ok(site)
     }
@@ -99,7 +100,7 @@ impl PlanBuilder {
     ///
     /// # Errors
     ///
-    /// Returns `Missing` if there is no such job. Nothing changes then.
+    /// Returns `Missing` if there is no such job, or if `k` is above 1,001. Nothing changes then.
     pub fn turns(&mut self, site: SiteId, k: u32, turns: u32) -> Result<(), Missing>
         ensures found { is_ok result ≡ has_job site.0 k self.old }
         ensures missing { IfErr result (λ missing. missing ≡ Missing.Job site k) }
@@ -116,7 +117,7 @@ impl PlanBuilder {
     ///
     /// # Errors
     ///
-    /// Returns `Missing` if there is no such job. Nothing changes then.
+    /// Returns `Missing` if there is no such job, or if `k` is above 1,001. Nothing changes then.
     pub fn fails(&mut self, site: SiteId, k: u32) -> Result<(), Missing>
         ensures found { is_ok result ≡ has_job site.0 k self.old }
         ensures missing { IfErr result (λ missing. missing ≡ Missing.Job site k) }
@@ -134,7 +135,7 @@ impl PlanBuilder {
     ///
     /// # Errors
     ///
-    /// Returns `Missing` if there is no such job. Nothing changes then.
+    /// Returns `Missing` if there is no such job, or if `k` is above 1,001. Nothing changes then.
     pub fn act(&mut self, site: SiteId, k: u32, act: Act) -> Result<(), Missing>
         ensures found { is_ok result ≡ has_job site.0 k self.old }
         ensures missing { IfErr result (λ missing. missing ≡ Missing.Job site k) }

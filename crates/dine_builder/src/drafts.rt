@@ -2,7 +2,7 @@
 ghost use Rattle.std.specs.Prelude.{◌≡◌, ◌≢◌, ◌≤◌, ◌+◌, Some, None, length, map};
 ghost use Rattle.std.specs.Prelude.{IfOk, OnOk, OnErr, IfErr, IfSome, IsTrue, is_some};
 ghost use Rattle.std.specs.List.{range_with_len};
-ghost use Rattle.dine_token.specs.declared.limits.TheConstants.{MAX_JOBS};
+ghost use Rattle.dine_graph.specs.declared.limits.TheConstants.{MAX_TEXT_JOBS};
 ghost use Rattle.dine_builder.specs.Draft.{empty_draft, plain_job, with_site, with_edge, has_edge, has_site};
 ghost use Rattle.dine_builder.specs.Draft.{edge_at, has_job, job_at, site_at, with_value, with_resigning, with_job};
 ghost use Rattle.dine_builder.specs.Draft.{with_turns, with_failure, with_act};
@@ -10,18 +10,22 @@ ghost use Rattle.dine_graph.specs.Job.{seen_job};
 ghost use Rattle.dine_graph.specs.Site.{seen_site};
 ghost use Rattle.dine_draft.specs.Draft.{seen_draft};
 ghost use Rattle.dine_builder.specs.DraftPlan.{IsOfDraft, draft_of, first_fault_of};
-ghost use Rattle.dine_builder.specs.DraftPlan.{job_of_draft, plan_of_draft, site_of_draft};
+ghost use Rattle.dine_builder.specs.DraftPlan.{job_of_draft, listed_draft, listed_site, plan_of_draft};
+ghost use Rattle.dine_builder.specs.DraftPlan.{site_in_text, site_of_draft, text_of};
 ghost use Rattle.dine_builder.specs.private.DraftFields.{seen_draft_site};
 
 use dine_draft::{Draft, DraftEdge, PlanFault};
-use dine_graph::{Job, JobName, Plan, Site};
+use dine_graph::{Job, JobName, MAX_TEXT_JOBS, Plan, Site};
 use dine_token::{Act, MAX_JOBS};
 use std::alloc::{AllocError, Global};
 use std::marker::Model;
 
-// The greatest number of jobs that a draft stores for a site: one more than a site may have, so that `finish` refuses
-// it.
-const MAX_KEPT_JOBS: u32 = MAX_JOBS + 1;
+/// The number of jobs of a site that [`PlanBuilder::open_site`] adds: as many as it does in an epoch of an open run.
+pub const EPOCH_JOBS: u32 = 1_000;
+
+// The greatest number of jobs that a draft stores for a site: one more than a site of a text may have, so that the text
+// of the draft is refused.
+const MAX_KEPT_JOBS: u32 = MAX_TEXT_JOBS + 1;
 
 // A job of a draft. Its number, from 1, is its name.
 #[derive(Clone, Copy, Debug)]
@@ -37,14 +41,19 @@ pub(crate) struct DraftJob {
 #[derive(Debug, Drop)]
 pub(crate) struct DraftSite {
     pub(crate) name: String,
+    // The first jobs, which may be changed.
     pub(crate) jobs: Vec<DraftJob>,
+    // The number of plain jobs after these.
+    pub(crate) plain: u32,
     pub(crate) resigns: bool,
 }
 
 /// A draft of a plan, of version 2 of the format. Sites, their jobs and edges are added one by one, and `finish`
 /// returns the plan. Nothing is checked before `finish`, which refuses a draft for the cause for which `read_plan`
-/// refuses the text that says the same. Sites and edges are numbered from 0 in the order in which they are added, and
-/// the jobs of a site from 1. A job's name is its number, such as `1`.
+/// refuses the text that says the same; only that a site may have 4,294,967,295 jobs, and not 1,000. Sites and edges
+/// are numbered from 0 in the order in which they are added, and the jobs of a site from 1. A job's name is its number,
+/// such as `1`. Only the first 1,001 jobs of a site are stored, and can be changed; those after these stay plain, and
+/// are only counted.
 #[derive(Debug, Drop)]
 pub struct PlanBuilder {
     alloc: Global,
@@ -85,10 +94,13 @@ impl PlanBuilder {
             return Err(AllocError);
         }
         let name = String::from_str(self.alloc, name)?;
-        let jobs = plain_jobs(self.alloc, jobs.min(MAX_KEPT_JOBS))?;
+        let kept = jobs.min(MAX_KEPT_JOBS);
+        let plain = jobs - kept;
+        let jobs = plain_jobs(self.alloc, kept)?;
         self.sites.push(DraftSite {
             name,
             jobs,
+            plain,
             resigns: false,
         })?;
         Ok(number as u32)
@@ -230,13 +242,13 @@ impl PlanBuilder {
         }
     }
 
-    /// Returns the plan of the draft. It is the plan of a text that says the same.
+    /// Returns the plan of the draft. If no site has more than 1,000 jobs, it is the plan of a text that says the same.
     ///
     /// # Errors
     ///
-    /// Returns the first cause of `PlanFault` that holds of such a text, at the least position. It is never one in the
-    /// form of a text, `TwoActs` or `UnknownPolicy`. Returns `Memory`, for no other cause, if an allocation fails. The
-    /// builder stays as it is.
+    /// Returns the first cause of `PlanFault` that holds of the draft, at the least position: `TooManyJobs` if a site
+    /// has more than 4,294,967,295 jobs, which no call of `site` adds. It is never one in the form of a text, `TwoActs`
+    /// or `UnknownPolicy`. Returns `Memory`, for no other cause, if an allocation fails. The builder stays as it is.
     pub fn finish(&self) -> Result<Plan, PlanFault>
         ensures unrefused { OnOk result (first_fault_of self.now ≡ None) }
         ensures plan { IfOk result (λ p. p ≡ plan_of_draft self.now) }
@@ -253,12 +265,14 @@ impl PlanBuilder {
     ///
     /// Returns `AllocError` if an allocation fails.
     pub fn draft(&self) -> Result<Draft, AllocError>
-        ensures { IfOk result (λ draft. seen_draft draft ≡ draft_of self.now) }
+        ensures draft { IfOk result (λ draft. seen_draft draft ≡ draft_of self.now) }
+        ensures text { IfOk result (λ draft. listed_draft draft ≡ text_of self.now) }
     {
         let sites = sites_of(self.alloc, self.sites.as_slice())?;
         let edges = self.edges.clone()?;
         Ok(Draft {
             version: 2,
+            most_jobs: MAX_JOBS,
             sites,
             edges,
             two_acts: None,
@@ -268,7 +282,8 @@ impl PlanBuilder {
 }
 
 fn sites_of(alloc: Global, drafts: &[DraftSite]) -> Result<Vec<Site>, AllocError>
-    ensures { IfOk result (λ v. map seen_site v.items ≡ map site_of_draft (map seen_draft_site drafts.now)) }
+    ensures sites { IfOk result (λ v. map seen_site v.items ≡ map site_of_draft (map seen_draft_site drafts.now)) }
+    ensures listed { IfOk result (λ v. map listed_site v.items ≡ map site_in_text (map seen_draft_site drafts.now)) }
 {
     let mut sites = Vec::new(alloc);
     for draft in drafts {
@@ -278,13 +293,15 @@ fn sites_of(alloc: Global, drafts: &[DraftSite]) -> Result<Vec<Site>, AllocError
 }
 
 fn site_of(alloc: Global, draft: &DraftSite) -> Result<Site, AllocError>
-    ensures { IfOk result (λ s. seen_site s ≡ site_of_draft (seen_draft_site draft.now)) }
+    ensures site { IfOk result (λ s. seen_site s ≡ site_of_draft (seen_draft_site draft.now)) }
+    ensures listed { IfOk result (λ s. listed_site s ≡ site_in_text (seen_draft_site draft.now)) }
 {
     let name = String::from_str(alloc, draft.name.as_str())?;
     let jobs = jobs_of(alloc, draft.jobs.as_slice())?;
     Ok(Site {
         name,
         jobs,
+        plain: draft.plain,
         resigns: draft.resigns,
     })
 }
@@ -313,7 +330,7 @@ fn job_of(draft: DraftJob) -> Job
 
 // Jobs 1 to `jobs`, as a new site has them.
 fn plain_jobs(alloc: Global, jobs: u32) -> Result<Vec<DraftJob>, AllocError>
-    requires { jobs ≤ MAX_JOBS + 1 }
+    requires { jobs ≤ MAX_TEXT_JOBS + 1 }
     ensures { IfOk result (λ v. v.items ≡ map plain_job (range_with_len 1 jobs)) }
 {
     let mut plain = Vec::with_capacity(alloc, jobs as usize)?;

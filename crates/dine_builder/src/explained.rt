@@ -1,11 +1,12 @@
 //! Why a builder's draft is refused, in words that say what to mend.
 ghost use Rattle.std.specs.Prelude.{◌≡◌, Some};
 ghost use Rattle.std.specs.Fmt.{WritesOnOk};
-ghost use Rattle.dine_builder.specs.Explanation.{counts_words, edge_words, explanation, place_words};
-ghost use Rattle.dine_builder.specs.Explanation.{sentence, site_words};
+ghost use Rattle.dine_draft.specs.Fault.{about_of};
+ghost use Rattle.dine_builder.specs.Explanation.{counts_words, edge_words, explanation, place_words, sentence_for};
+ghost use Rattle.dine_builder.specs.Explanation.{site_words};
 
 use crate::drafts::PlanBuilder;
-use dine_draft::PlanFault;
+use dine_draft::{About, PlanFault};
 use std::fmt;
 
 /// Why the draft of a builder is refused, in words that say what to mend. `Display` writes them, such as
@@ -38,8 +39,18 @@ impl fmt::Display for Explained<'_> {
             plan: self.plan,
             fault: self.fault,
         };
-        let sentence = sentence_of(self.fault);
+        let sentence = sentence_for(self.fault);
         write!(f, "{place}{sentence}")
+    }
+}
+
+// What is wrong, in words. A builder's site may have more jobs than one of a text.
+fn sentence_for(fault: PlanFault) -> &'static str
+    ensures { result.now ≡ sentence_for fault }
+{
+    match fault {
+        PlanFault::TooManyJobs(_) => "it has more than 4,294,967,295 jobs",
+        fault => fault.sentence(),
     }
 }
 
@@ -51,25 +62,14 @@ struct Place<'a> {
 }
 
 impl fmt::Display for Place<'_> {
-    ghost output = { λ place. Some (place_words place.plan.now place.fault) };
+    ghost output = { λ place. Some (place_words place.plan.now (about_of place.fault)) };
 
     fn fmt<W: fmt::Write>(&self, f: &mut fmt::Formatter<W>) -> fmt::Result {
-        match self.fault {
-            PlanFault::BadName(site)
-            | PlanFault::SiteTwice(site)
-            | PlanFault::TooManyJobs(site)
-            | PlanFault::TurnsTooLarge(site)
-            | PlanFault::TwoActs(site)
-            | PlanFault::ActTooLarge(site)
-            | PlanFault::UnknownPolicy(site) => write_site(f, self.plan, site),
-            PlanFault::UnknownEnd(edge)
-            | PlanFault::Loop(edge)
-            | PlanFault::EdgeTwice(edge)
-            | PlanFault::ValueTooLarge(edge) => write_edge(f, self.plan, edge),
-            PlanFault::NoSite | PlanFault::TooManySites | PlanFault::TooManyEdges => {
-                write_counts(f, self.plan)
-            }
-            _ => Ok(()),
+        match self.fault.about() {
+            About::Site(site) => write_site(f, self.plan, site),
+            About::Edge(edge) => write_edge(f, self.plan, edge),
+            About::Counts => write_counts(f, self.plan),
+            About::Text => Ok(()),
         }
     }
 }
@@ -113,32 +113,4 @@ fn write_counts<W: fmt::Write>(f: &mut fmt::Formatter<W>, plan: &PlanBuilder) ->
     let sites = plan.site_count();
     let edges = plan.edge_count();
     write!(f, "number of sites: {sites}, number of edges: {edges}; ")
-}
-
-// What is wrong, in a sentence.
-fn sentence_of(fault: PlanFault) -> &'static str
-    ensures { result.now ≡ sentence fault }
-{
-    match fault {
-        PlanFault::NotToml => "the text is not TOML",
-        PlanFault::Version => "version must be 1 or 2",
-        PlanFault::UnknownKey => "a table has a key that plans of its version do not have",
-        PlanFault::MissingKey => "a site or a job has no name, or an edge has no ends",
-        PlanFault::WrongKind => "a value is of the wrong kind, such as a text for a number",
-        PlanFault::BadName(_) => "its name is not 1 to 32 ASCII letters, digits, _ or -",
-        PlanFault::SiteTwice(_) => "an earlier site has the same name",
-        PlanFault::NoSite => "a plan has at least 1 site",
-        PlanFault::TooManySites => "a plan has at most 64 sites",
-        PlanFault::TooManyJobs(_) => "it has more than 1,000 jobs",
-        PlanFault::TurnsTooLarge(_) => "a job of it has more than 1,000,000 turns",
-        PlanFault::UnknownEnd(_) => "an end is not the number of a site; the first site is 0",
-        PlanFault::Loop(_) => "both ends are one site",
-        PlanFault::EdgeTwice(_) => "an earlier edge joins the same two sites",
-        PlanFault::TooManyEdges => "a plan has at most 512 edges",
-        PlanFault::Memory => "an allocation failed",
-        PlanFault::TwoActs(_) => "a job of it both adds and sets",
-        PlanFault::ActTooLarge(_) => "a job of it adds or sets more than 1,000,000",
-        PlanFault::ValueTooLarge(_) => "its value is above 1,000,000",
-        PlanFault::UnknownPolicy(_) => "its on_fault is neither go nor resign",
-    }
 }

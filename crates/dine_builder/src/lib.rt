@@ -7,5 +7,5 @@ mod drafts;
 mod explained;
 
 pub use absent::Missing;
-pub use drafts::PlanBuilder;
+pub use drafts::{EPOCH_JOBS, PlanBuilder};
 pub use explained::Explained;

@@ -3,3 +3,4 @@ pub mod ListLemmas
 pub mod NameLemmas
 pub mod Searches
 pub mod PlanLemmas
+pub mod PlainLemmas

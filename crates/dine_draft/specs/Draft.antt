@@ -5,10 +5,12 @@ use Rattle.dine_graph.specs.Site.{seen_site}
 use Rattle.dine_draft.specs.declared.drafts.Draft.{Draft}
 use Rattle.dine_draft.specs.declared.drafts.DraftEdge.{DraftEdge}
 
--- a draft: the version of the format; the sites; the edges, each with the numbers of its two ends and its value; and
--- the first site that has a job with two acts, and the first with a policy that the format does not name
+-- a draft: the version of the format; the greatest number of jobs of a site; the sites; the edges, each with the
+-- numbers of its two ends and its value; and the first site that has a job with two acts, and the first with a policy
+-- that the format does not name
 pub record SeenDraft : Type 0 where
   pub version : ℕ
+  pub most_jobs : ℕ
   pub sites : List SeenSite
   pub edges : List DraftEdge
   pub two_acts : Option ℕ
@@ -16,7 +18,7 @@ pub record SeenDraft : Type 0 where
 
 -- the draft that the fields of a `Draft` describe
 abbrev pub seen_draft : Draft → SeenDraft
-seen_draft d = record { version = d.version; sites = map seen_site d.sites.items; edges = d.edges.items; two_acts = d.two_acts; other_policy = d.other_policy }
+seen_draft d = record { version = d.version; most_jobs = d.most_jobs; sites = map seen_site d.sites.items; edges = d.edges.items; two_acts = d.two_acts; other_policy = d.other_policy }
 
 -- the names of sites, in order
 abbrev pub names_of : List SeenSite → List (List ℕ)

@@ -1,9 +1,9 @@
 -- Why a draft is refused: each cause as a test of its sites or of its edges, and the first that holds.
-use Rattle.std.specs.Prelude.{ℕ, ◌==◌, Bool, true, false, not, ◌&&◌, ◌||◌, nat_lt, nat_le, List, [], ◌∷◌, ◌++◌, map, length, take, position, slice_index_or, Option, Some, None, option_map, if◌then◌else◌}
+use Rattle.std.specs.Prelude.{ℕ, ◌==◌, Bool, false, not, ◌&&◌, ◌||◌, nat_lt, nat_le, List, [], ◌∷◌, ◌++◌, map, length, take, position, slice_index_or, Option, Some, None, option_map, if◌then◌else◌}
 use Rattle.std.specs.Option.{option_map_or, option_or}
 use Rattle.std.specs.List.{range_with_len, list_any}
 use Rattle.std.specs.Str.{bytes_eq}
-use Rattle.dine_token.specs.declared.limits.TheConstants.{MAX_JOBS, MAX_NUMBER}
+use Rattle.dine_token.specs.declared.limits.TheConstants.{MAX_NUMBER}
 use Rattle.dine_token.specs.Values.{amount_of}
 use Rattle.dine_graph.specs.declared.limits.TheConstants.{MAX_EDGES, MAX_SITES, MAX_TURNS}
 use Rattle.dine_graph.specs.Plan.{SeenJob, SeenSite, is_name}
@@ -28,9 +28,9 @@ is_unnamed job = not (is_name job.name)
 unfoldable pub has_bad_name : SeenSite → Bool
 has_bad_name site = not (is_name site.name) || list_any is_unnamed site.jobs
 
--- cause 10: the site has more than 1,000 jobs
-unfoldable pub has_many_jobs : SeenSite → Bool
-has_many_jobs site = nat_lt MAX_JOBS (length site.jobs)
+-- cause 10: the site has more than this number of jobs
+unfoldable pub has_many_jobs : ℕ → SeenSite → Bool
+has_many_jobs most site = nat_lt most (length site.jobs)
 
 -- the job has turns above 1,000,000
 abbrev pub is_long : SeenJob → Bool
@@ -77,14 +77,15 @@ has_large_value edge = nat_lt MAX_NUMBER edge.value
 abbrev pub on : Bool → PlanFault → Option PlanFault
 on holds fault = if holds then Some fault else None
 
--- causes 6 to 11, in the sites, each if it holds, at the least position if it has one, in order
-unfoldable pub site_refusals : List SeenSite → List (Option PlanFault)
-site_refusals sites =
+-- causes 6 to 11, in the sites, of which each may have this number of jobs, each if it holds, at the least position if
+-- it has one, in order
+unfoldable pub site_refusals : ℕ → List SeenSite → List (Option PlanFault)
+site_refusals most sites =
     option_map fault.BadName (position has_bad_name sites)
     ∷ option_map fault.SiteTwice (first_twice bytes_eq [] (names_of sites))
     ∷ on (length sites == 0) fault.NoSite
     ∷ on (nat_lt MAX_SITES (length sites)) fault.TooManySites
-    ∷ option_map fault.TooManyJobs (position has_many_jobs sites)
+    ∷ option_map fault.TooManyJobs (position (has_many_jobs most) sites)
     ∷ option_map fault.TurnsTooLarge (position has_many_turns sites)
     ∷ []
 
@@ -119,7 +120,7 @@ first_some (o ∷ os) = option_or o (first_some os)
 -- the refusals of a draft, in order
 unfoldable pub draft_refusals : SeenDraft → List (Option PlanFault)
 draft_refusals d =
-    site_refusals d.sites ++ (end_refusals (length d.sites) d.edges ++ (pair_refusals (map (joined_by (length d.sites)) d.edges) ++ act_refusals d))
+    site_refusals d.most_jobs d.sites ++ (end_refusals (length d.sites) d.edges ++ (pair_refusals (map (joined_by (length d.sites)) d.edges) ++ act_refusals d))
 
 -- the first refusal of a draft that holds, at the least position; none if no cause does
 unfoldable pub first_of_draft : SeenDraft → Option PlanFault

@@ -38,7 +38,7 @@ fn first_with_large_act(sites: &[Site]) -> Option<usize>
     sites.iter().position(has_large_act)
 }
 
-// Whether a job of the site adds or sets more than 1,000,000.
+// Whether a job of the site adds or sets more than 1,000,000. A plain job adds 0.
 fn has_large_act(site: &Site) -> bool
     ensures { result ≡ has_large_act (seen_site site.now) }
 {

@@ -1,5 +1,6 @@
 //! A draft, and the plan of it.
 ghost use Rattle.std.specs.Prelude.{◌≡◌, ◌≢◌, ◌≤◌, None, Some, length, map, OnOk, IfOk, IfErr};
+ghost use Rattle.dine_token.specs.declared.limits.TheConstants.{MAX_JOBS};
 ghost use Rattle.dine_draft.specs.Draft.{plan_of, seen_draft, value_of_edge};
 ghost use Rattle.dine_draft.specs.Refusals.{first_of_draft};
 
@@ -29,6 +30,8 @@ pub struct DraftEdge {
 pub struct Draft {
     /// The version of the format, 1 or 2.
     pub version: u32,
+    /// The greatest number of jobs that a site may have, at most 4,294,967,295: 1,000 in a text.
+    pub most_jobs: u32,
     /// The sites with their jobs.
     pub sites: Vec<Site>,
     /// The edges.
@@ -49,6 +52,7 @@ impl Draft {
     pub fn finish(self, alloc: Global) -> Result<Plan, PlanFault>
         requires first { 1 ≤ self.version }
         requires last { self.version ≤ 2 }
+        requires most_jobs { self.most_jobs ≤ MAX_JOBS }
         ensures unrefused { OnOk result (first_of_draft (seen_draft self) ≡ None) }
         ensures plan { IfOk result (λ p. p ≡ plan_of (seen_draft self)) }
         ensures refused { IfErr result (λ f. f ≢ PlanFault.Memory → first_of_draft (seen_draft self) ≡ Some f) }
@@ -71,7 +75,7 @@ impl Draft {
         requires edges { length self.now.edges.items ≤ u32.MAX }
         ensures { IfOk result (λ o. o ≡ first_of_draft (seen_draft self.now)) }
     {
-        let site_fault = first_site_fault(alloc, self.sites.as_slice())?;
+        let site_fault = first_site_fault(alloc, self.most_jobs, self.sites.as_slice())?;
         if site_fault.is_some() {
             return Ok(site_fault);
         }

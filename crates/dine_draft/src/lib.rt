@@ -9,4 +9,4 @@ mod plan_fault;
 mod sites;
 
 pub use drafts::{Draft, DraftEdge};
-pub use plan_fault::PlanFault;
+pub use plan_fault::{About, PlanFault};

@@ -1,8 +1,6 @@
 //! Why a text is no plan.
-ghost use Rattle.std.specs.Prelude.{◌≡◌, ◌++◌, [], Some};
-ghost use Rattle.std.specs.Fmt.{decimal};
-ghost use Rattle.std.specs.Option.{option_map_or};
-ghost use Rattle.dine_draft.specs.Fault.{number_of_fault, plan_fault_words, position_in};
+ghost use Rattle.std.specs.Prelude.{◌≡◌, Some};
+ghost use Rattle.dine_draft.specs.Fault.{about_of, about_words, number_of_fault, plan_fault_words, row_of, sentence_of};
 ghost use Rattle.dine_draft.specs.declared.plan_fault.PlanFault.TheVariants.{Memory};
 
 use std::alloc::{AllocError, AllocFailed};
@@ -56,81 +54,122 @@ pub enum PlanFault {
     Memory,
 }
 
+/// What a cause is about.
+#[derive(Clone, Copy, Debug, PartialEq, Eq)]
+pub enum About {
+    /// The site at this position, from 0.
+    Site(u32),
+    /// The edge at this position, from 0.
+    Edge(u32),
+    /// How many sites or edges there are.
+    Counts,
+    /// The form of a text, or memory.
+    Text,
+}
+
+/// Writes the site or the edge as it follows the name of a cause: ` at site 0`. Writes nothing for the others.
+impl fmt::Display for About {
+    ghost output = { λ about. Some (about_words about) };
+
+    fn fmt<W: fmt::Write>(&self, f: &mut fmt::Formatter<W>) -> fmt::Result {
+        match self {
+            About::Site(site) => write!(f, " at site {site}"),
+            About::Edge(edge) => write!(f, " at edge {edge}"),
+            About::Counts | About::Text => Ok(()),
+        }
+    }
+}
+
+// The number of a cause, its name, and what it is about.
+#[derive(Clone, Copy)]
+struct CauseRow {
+    number: u32,
+    name: &'static str,
+    about: About,
+}
+
+fn row(number: u32, name: &'static str, about: About) -> CauseRow
+    ensures number { result.number ≡ number }
+    ensures name { result.name.now ≡ name.now }
+    ensures about { result.about ≡ about }
+{
+    CauseRow {
+        number,
+        name,
+        about,
+    }
+}
+
 impl PlanFault {
+    fn row(&self) -> CauseRow
+        ensures number { result.number ≡ (row_of self.now).number }
+        ensures name { result.name.now ≡ (row_of self.now).name }
+        ensures about { result.about ≡ (row_of self.now).about }
+    {
+        match *self {
+            PlanFault::NotToml => row(1, "NotToml", About::Text),
+            PlanFault::Version => row(2, "Version", About::Text),
+            PlanFault::UnknownKey => row(3, "UnknownKey", About::Text),
+            PlanFault::MissingKey => row(4, "MissingKey", About::Text),
+            PlanFault::WrongKind => row(5, "WrongKind", About::Text),
+            PlanFault::BadName(site) => row(6, "BadName", About::Site(site)),
+            PlanFault::SiteTwice(site) => row(7, "SiteTwice", About::Site(site)),
+            PlanFault::NoSite => row(8, "NoSite", About::Counts),
+            PlanFault::TooManySites => row(9, "TooManySites", About::Counts),
+            PlanFault::TooManyJobs(site) => row(10, "TooManyJobs", About::Site(site)),
+            PlanFault::TurnsTooLarge(site) => row(11, "TurnsTooLarge", About::Site(site)),
+            PlanFault::UnknownEnd(edge) => row(12, "UnknownEnd", About::Edge(edge)),
+            PlanFault::Loop(edge) => row(13, "Loop", About::Edge(edge)),
+            PlanFault::EdgeTwice(edge) => row(14, "EdgeTwice", About::Edge(edge)),
+            PlanFault::TooManyEdges => row(15, "TooManyEdges", About::Counts),
+            PlanFault::Memory => row(16, "Memory", About::Text),
+            PlanFault::TwoActs(site) => row(17, "TwoActs", About::Site(site)),
+            PlanFault::ActTooLarge(site) => row(18, "ActTooLarge", About::Site(site)),
+            PlanFault::ValueTooLarge(edge) => row(19, "ValueTooLarge", About::Edge(edge)),
+            PlanFault::UnknownPolicy(site) => row(20, "UnknownPolicy", About::Site(site)),
+        }
+    }
+
     /// Returns the number of the cause, 1 to 20, in the order in which the causes are checked. `Memory`, which may be
     /// returned at any point, is 16.
     pub fn number(&self) -> u32
         ensures { result ≡ number_of_fault self.now }
     {
-        match self {
-            PlanFault::NotToml => 1,
-            PlanFault::Version => 2,
-            PlanFault::UnknownKey => 3,
-            PlanFault::MissingKey => 4,
-            PlanFault::WrongKind => 5,
-            PlanFault::BadName(_) => 6,
-            PlanFault::SiteTwice(_) => 7,
-            PlanFault::NoSite => 8,
-            PlanFault::TooManySites => 9,
-            PlanFault::TooManyJobs(_) => 10,
-            PlanFault::TurnsTooLarge(_) => 11,
-            PlanFault::UnknownEnd(_) => 12,
-            PlanFault::Loop(_) => 13,
-            PlanFault::EdgeTwice(_) => 14,
-            PlanFault::TooManyEdges => 15,
-            PlanFault::Memory => 16,
-            PlanFault::TwoActs(_) => 17,
-            PlanFault::ActTooLarge(_) => 18,
-            PlanFault::ValueTooLarge(_) => 19,
-            PlanFault::UnknownPolicy(_) => 20,
-        }
+        self.row().number
     }
 
-    // The words of the cause, up to its position if it has one.
-    fn words(&self) -> &'static str
-        ensures { plan_fault_words self.now ≡ result.now ++ option_map_or decimal (position_in self.now) [] }
+    /// Returns what the cause is about.
+    pub fn about(&self) -> About
+        ensures { result ≡ about_of self.now }
     {
-        match self {
-            PlanFault::NotToml => "1 NotToml",
-            PlanFault::Version => "2 Version",
-            PlanFault::UnknownKey => "3 UnknownKey",
-            PlanFault::MissingKey => "4 MissingKey",
-            PlanFault::WrongKind => "5 WrongKind",
-            PlanFault::BadName(_) => "6 BadName at site ",
-            PlanFault::SiteTwice(_) => "7 SiteTwice at site ",
-            PlanFault::NoSite => "8 NoSite",
-            PlanFault::TooManySites => "9 TooManySites",
-            PlanFault::TooManyJobs(_) => "10 TooManyJobs at site ",
-            PlanFault::TurnsTooLarge(_) => "11 TurnsTooLarge at site ",
-            PlanFault::UnknownEnd(_) => "12 UnknownEnd at edge ",
-            PlanFault::Loop(_) => "13 Loop at edge ",
-            PlanFault::EdgeTwice(_) => "14 EdgeTwice at edge ",
-            PlanFault::TooManyEdges => "15 TooManyEdges",
-            PlanFault::Memory => "16 Memory",
-            PlanFault::TwoActs(_) => "17 TwoActs at site ",
-            PlanFault::ActTooLarge(_) => "18 ActTooLarge at site ",
-            PlanFault::ValueTooLarge(_) => "19 ValueTooLarge at edge ",
-            PlanFault::UnknownPolicy(_) => "20 UnknownPolicy at site ",
-        }
+        self.row().about
     }
 
-    // The position of the site or edge that the cause names, if it names one.
-    fn position(&self) -> Option<u32>
-        ensures { result ≡ position_in self.now }
+    /// Returns what is wrong, in words that may follow the site or the edge that the cause is about.
+    pub fn sentence(&self) -> &'static str
+        ensures { result.now ≡ sentence_of self.now }
     {
-        match *self {
-            PlanFault::BadName(position)
-            | PlanFault::SiteTwice(position)
-            | PlanFault::TooManyJobs(position)
-            | PlanFault::TurnsTooLarge(position)
-            | PlanFault::UnknownEnd(position)
-            | PlanFault::Loop(position)
-            | PlanFault::EdgeTwice(position)
-            | PlanFault::TwoActs(position)
-            | PlanFault::ActTooLarge(position)
-            | PlanFault::ValueTooLarge(position)
-            | PlanFault::UnknownPolicy(position) => Some(position),
-            _ => None,
+        match self {
+            PlanFault::NotToml => "the text is not TOML",
+            PlanFault::Version => "version must be 1 or 2",
+            PlanFault::UnknownKey => "a table has a key that plans of its version do not have",
+            PlanFault::MissingKey => "a site or a job has no name, or an edge has no ends",
+            PlanFault::WrongKind => "a value is of the wrong kind, such as a text for a number",
+            PlanFault::BadName(_) => "its name is not 1 to 32 ASCII letters, digits, _ or -",
+            PlanFault::SiteTwice(_) => "an earlier site has the same name",
+            PlanFault::NoSite => "a plan has at least 1 site",
+            PlanFault::TooManySites => "a plan has at most 64 sites",
+            PlanFault::TooManyJobs(_) => "it has more than 1,000 jobs",
+            PlanFault::TurnsTooLarge(_) => "a job of it has more than 1,000,000 turns",
+            PlanFault::UnknownEnd(_) => "an end is not the number of a site; the first site is 0",
+            PlanFault::Loop(_) => "both ends are one site",
+            PlanFault::EdgeTwice(_) => "an earlier edge joins the same two sites",
+            PlanFault::TooManyEdges => "a plan has at most 512 edges",
+            PlanFault::Memory => "an allocation failed",
+            PlanFault::TwoActs(_) => "a job of it both adds and sets",
+            PlanFault::ActTooLarge(_) => "a job of it adds or sets more than 1,000,000",
+            PlanFault::ValueTooLarge(_) => "its value is above 1,000,000",
+            PlanFault::UnknownPolicy(_) => "its on_fault is neither go nor resign",
         }
     }
 }
@@ -140,11 +179,12 @@ impl fmt::Display for PlanFault {
     ghost output = { λ fault. Some (plan_fault_words fault) };
 
     fn fmt<W: fmt::Write>(&self, f: &mut fmt::Formatter<W>) -> fmt::Result {
-        let words = self.words();
-        match self.position() {
-            Some(position) => write!(f, "{words}{position}"),
-            None => f.write_str(words),
-        }
+        let CauseRow {
+            number,
+            name,
+            about,
+        } = self.row();
+        write!(f, "{number} {name}{about}")
     }
 }
 

@@ -1,8 +1,9 @@
 //! The checks on the sites of a draft.
-ghost use Rattle.std.specs.Prelude.{◌≡◌, ◌≤◌, [], length, map, position, IfOk};
+ghost use Rattle.std.specs.Prelude.{◌≡◌, ◌+◌, ◌<◌, ◌^◌, ◌≤◌, [], length, map, position, IfOk};
 ghost use Rattle.std.specs.Fmt.{decimal};
+ghost use Rattle.std.specs.List.{list_any, range_with_len};
 ghost use Rattle.std.specs.Str.{bytes_eq};
-ghost use Rattle.dine_graph.specs.Job.{seen_job};
+ghost use Rattle.dine_graph.specs.Job.{plain_job, seen_job};
 ghost use Rattle.dine_graph.specs.Plan.{is_name, is_name_byte};
 ghost use Rattle.dine_graph.specs.Site.{seen_site};
 ghost use Rattle.dine_draft.specs.Draft.{names_of};
@@ -11,18 +12,18 @@ ghost use Rattle.dine_draft.specs.Refusals.{has_many_turns, is_long, is_unnamed,
 
 use crate::plan_fault::PlanFault;
 use dine_graph::{Job, JobName, MAX_NAME, MAX_SITES, MAX_TURNS, Site};
-use dine_token::MAX_JOBS;
 use std::alloc::{AllocError, Global};
 use std::collections::BTreeSet;
 
-/// Returns the first fault in the sites of a draft.
+/// Returns the first fault in the sites of a draft, of which each may have `most_jobs` jobs.
 #[tactic(auto, unfolding(crate::specs::Refusals::site_refusals))]
 pub(crate) fn first_site_fault(
     alloc: Global,
+    most_jobs: u32,
     sites: &[Site],
 ) -> Result<Option<PlanFault>, AllocError>
     requires { length sites.now ≤ u32.MAX }
-    ensures { IfOk result (λ o. o ≡ first_some (site_refusals (map seen_site sites.now))) }
+    ensures { IfOk result (λ o. o ≡ first_some (site_refusals most_jobs (map seen_site sites.now))) }
 {
     if let Some(site) = first_bad_name(sites) {
         return Ok(Some(PlanFault::BadName(site as u32)));
@@ -36,7 +37,7 @@ pub(crate) fn first_site_fault(
     if sites.len() > MAX_SITES as usize {
         return Ok(Some(PlanFault::TooManySites));
     }
-    if let Some(site) = first_with_many_jobs(sites) {
+    if let Some(site) = first_with_many_jobs(most_jobs, sites) {
         return Ok(Some(PlanFault::TooManyJobs(site as u32)));
     }
     if let Some(site) = first_with_many_turns(sites) {
@@ -59,7 +60,15 @@ fn has_bad_name(site: &Site) -> bool
     if !is_name(site.name.as_str()) {
         return true;
     }
-    jobs.iter().any(is_unnamed)
+    jobs.iter().any(is_unnamed) | has_unnamed_number(jobs.len(), site.plain)
+}
+
+// Whether the number of a plain job after this number of jobs is no name. A number always is one.
+fn has_unnamed_number(listed: usize, plain: u32) -> bool
+    requires { listed < 2 ^ 63 }
+    ensures { result ≡ list_any is_unnamed (map plain_job (range_with_len (listed + 1) plain)) }
+{
+    false
 }
 
 // Whether the name of the job is no name. A number always is one.
@@ -108,18 +117,17 @@ fn first_site_twice(alloc: Global, sites: &[Site]) -> Result<Option<usize>, Allo
     Ok(None)
 }
 
-fn first_with_many_jobs(sites: &[Site]) -> Option<usize>
-    ensures { result ≡ position has_many_jobs (map seen_site sites.now) }
+fn first_with_many_jobs(most: u32, sites: &[Site]) -> Option<usize>
+    ensures { result ≡ position (has_many_jobs most) (map seen_site sites.now) }
 {
-    sites.iter().position(has_many_jobs)
+    sites.iter().position(|site| has_many_jobs(most, site))
 }
 
-// Whether the site has more than 1,000 jobs.
-#[tactic(auto, unfolding(crate::specs::Refusals::has_many_jobs))]
-fn has_many_jobs(site: &Site) -> bool
-    ensures { result ≡ has_many_jobs (seen_site site.now) }
+// Whether the site has more than this number of jobs.
+fn has_many_jobs(most: u32, site: &Site) -> bool
+    ensures { result ≡ has_many_jobs most (seen_site site.now) }
 {
-    site.jobs.len() > MAX_JOBS as usize
+    site.jobs.len() as u64 + u64::from(site.plain) > u64::from(most)
 }
 
 fn first_with_many_turns(sites: &[Site]) -> Option<usize>
@@ -128,7 +136,7 @@ fn first_with_many_turns(sites: &[Site]) -> Option<usize>
     sites.iter().position(has_many_turns)
 }
 
-// Whether a job of the site has turns above 1,000,000.
+// Whether a job of the site has turns above 1,000,000. A plain job has none.
 fn has_many_turns(site: &Site) -> bool
     ensures { result ≡ has_many_turns (seen_site site.now) }
 {

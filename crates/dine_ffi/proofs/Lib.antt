@@ -11,4 +11,5 @@ pub mod PutBack
 pub mod Refused
 pub mod Standing
 pub mod Report
+pub mod Turns
 pub mod Words

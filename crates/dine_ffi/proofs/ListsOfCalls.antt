@@ -1,20 +1,23 @@
 -- A list of calls of a site leads where the steps of those that did not refuse lead.
-use Rattle.std.proofs.Common.{◌≡◌, ◌⊎◌, ℕ, ℤ, pos, negsuc, false, List, [], ◌∷◌, Option, Some, None, refl, sym, ◌∙◌, subst, inl, inr}
+use Rattle.std.proofs.Common.{◌≡◌, ◌⊎◌, ℕ, ℤ, pos, negsuc, Bool, true, false, cond, List, [], ◌∷◌, Option, Some, None, refl, sym, ◌∙◌, ap, subst, inl, inr}
 use Rattle.std.proofs.lemmas.Bool.{cases_eq}
 use Rattle.dine_graph.specs.Plan.{SeenPlan}
 use Rattle.dine_rules.specs.declared.events.EventKind.{EventKind}
 use Rattle.dine_rules.specs.declared.events.EventKind.TheVariants as kinds
-use Rattle.dine_rules.specs.Local.{LocalState, start_of}
+use Rattle.dine_rules.specs.Local.{LocalState, is_eating, start_of}
 use Rattle.dine_rules.specs.Steps as step
 use Rattle.dine_rules.specs.Steps.{LocalStep, Step, after}
+use Rattle.dine_site.specs.NextEvent.{next_of}
+use Rattle.dine_site.specs.Places.{has_all_said}
 use Rattle.dine_ffi.specs.Acts.{put_step}
-use Rattle.dine_ffi.specs.Calls.{AreStepsOf, Call, CallsLead, IsStepOf, Returns, StepsLead, step_of_act}
-use Rattle.dine_ffi.specs.Calls.Call.{Hungry, Begin, End, Quit, Put, Act, Take}
+use Rattle.dine_ffi.specs.Calls.{AreStepsOf, Call, CallsLead, IsStepOf, IsStepOfEvent, Returns, StepsLead, step_of_act}
+use Rattle.dine_ffi.specs.Calls.Call.{Hungry, Begin, End, Quit, Put, Act, Turn, Take}
 use Rattle.dine_ffi.specs.Events.{kind_numbered}
-use Rattle.dine_ffi.specs.OwnSites.{ActsAs, ActsOrRefuses, IsOpened, OwnSteps, SeenOwnSite, StandsFor}
+use Rattle.dine_ffi.specs.OwnSites.{ActsAs, ActsOrRefuses, IsOpened, OwnSteps, SeenOwnSite, StandsFor, TurnsOrRefuses}
 use Rattle.dine_ffi.specs.declared.acts.PutKind.TheVariants as put
 use Rattle.dine_ffi.specs.declared.event.DineEvent.{DineEvent}
 use Rattle.dine_ffi.proofs.Standing.{begin_call, end_call, hungry_call, opened_stands, put_call, quit_call, take_call}
+use Rattle.dine_ffi.proofs.Turns.{numbered, of_site}
 
 -- a call that did not refuse did the step that it names
 record DidStep (call : Call) (old new : SeenOwnSite) : Type 0 where
@@ -61,6 +64,31 @@ act_did_nothing : (event : DineEvent) (out out_new : List ℕ) (n : ℕ) (old ne
 act_did_nothing event out out_new n old new is (inl same) = not_acted (kind_numbered event.kind event.place) out out_new n old new (is.0 same)
 act_did_nothing event out out_new n old new is (inr other) = (is.1 other).1
 
+-- a turn that did not refuse did the step of the event that it wrote
+turn_did : (event before : DineEvent) (out out_new : List ℕ) (n : ℕ) (old new : SeenOwnSite) → TurnsOrRefuses before event out out_new (pos n) old new
+    → (next : Option EventKind) → next_of old.core ≡ next → (eats : Bool) → is_eating old.core.phase ≡ eats → DidStep (Turn event) old new
+turn_did event before out out_new n old new is next found true eats = absurd (let never : pos n ≡ negsuc 6 = (is.eats eats).0 in cc)
+turn_did event before out out_new n old new is None found false awake = absurd (never (has_all_said old.core) (is.idle awake found).0)
+  where
+    never : (b : Bool) → pos n ≡ cond b (negsuc 16) (negsuc 15) → ⊥
+    never true same = cc
+    never false same = cc
+turn_did event before out out_new n old new is (Some next) found false awake =
+    let s = old.core.site in
+    let did = is.acts awake next found in
+    let w = acted (Some next) out out_new n old new did.0 in
+    record {
+      did = w.0;
+      names = subst (λ (it : DineEvent). IsStepOfEvent s it w.0) (sym did.1) (of_site s next, ap step_of_act (numbered s next) ∙ w.1);
+      steps = w.2;
+    }
+
+turn_did_nothing : (event before : DineEvent) (out out_new : List ℕ) (n : ℕ) (old new : SeenOwnSite) → TurnsOrRefuses before event out out_new (negsuc n) old new
+    → (next : Option EventKind) → next_of old.core ≡ next → (eats : Bool) → is_eating old.core.phase ≡ eats → new ≡ old
+turn_did_nothing event before out out_new n old new is next found true eats = (is.eats eats).1.site_stays
+turn_did_nothing event before out out_new n old new is None found false awake = (is.idle awake found).1.site_stays
+turn_did_nothing event before out out_new n old new is (Some next) found false awake = not_acted (Some next) out out_new n old new (is.acts awake next found).0
+
 did_step : (call : Call) (n : ℕ) (old new : SeenOwnSite) → Returns call (pos n) old new → DidStep call old new
 did_step Hungry n old new is = record { did = step.Hungry; names = refl; steps = hungry_call old new is.1 }
 did_step Begin n old new is = record { did = step.Begin; names = refl; steps = begin_call old new is.1 }
@@ -68,9 +96,10 @@ did_step (End failed) n old new is = record { did = step.End failed; names = ref
 did_step Quit n old new is = record { did = step.Quit; names = refl; steps = quit_call old new is.1 }
 did_step (Put kind i) n old new is = record { did = put_step kind i; names = refl; steps = put_call kind i is.2.0 old new is.2.1 }
 did_step (Act event) n old new is = act_did event is.0 is.1 n old new is.2 (cases_eq event.site old.core.site)
+did_step (Turn event) n old new is = turn_did event is.0 is.1 is.2 n old new is.3 (next_of old.core) refl (is_eating old.core.phase) refl
 did_step (Take bytes) n old new is =
-    let w = is.outcome.1 in
-    record { did = step.Take w.0 w.1; names = (w.0, w.1, refl, w.2.arrives.are); steps = take_call bytes w.0 w.1 old new w.2 }
+    let w = is.outcome in
+    record { did = step.Take w.0 w.1; names = (w.0, w.1, refl, w.3.arrives.are); steps = take_call bytes w.0 w.1 old new w.3 }
 
 -- a call that refused changed nothing
 did_nothing : (call : Call) (n : ℕ) (state : LocalState) (old new : SeenOwnSite) → StandsFor state old → Returns call (negsuc n) old new → new ≡ old
@@ -80,6 +109,7 @@ did_nothing (End failed) n state old new stands is = is.0
 did_nothing Quit n state old new stands is = is.0
 did_nothing (Put kind i) n state old new stands is = is.2.0
 did_nothing (Act event) n state old new stands is = act_did_nothing event is.0 is.1 n old new is.2 (cases_eq event.site old.core.site)
+did_nothing (Turn event) n state old new stands is = turn_did_nothing event is.0 is.1 is.2 n old new is.3 (next_of old.core) refl (is_eating old.core.phase) refl
 did_nothing (Take bytes) n state old new stands is = (is.outcome state stands).0
 
 abbrev Leads : SeenPlan → ℕ → ℕ → List (Call × ℤ) → LocalState → SeenOwnSite → Type 0

@@ -1,6 +1,6 @@
 -- What a call returns that refuses to take bytes: they are those of no letter of the run, or what they report is
 -- refused.
-use Rattle.std.proofs.Common.{◌≡◌, ℕ, zero, suc, ◌<◌, ◌≤◌, ◌^◌, ℤ, pos, negsuc, false, List, length, Some, refl, sym, ◌∙◌, ap, inl, inr, arith}
+use Rattle.std.proofs.Common.{◌≡◌, ℕ, ◌<◌, ◌≤◌, ◌^◌, ℤ, pos, negsuc, false, List, length, Some, refl, sym, ◌∙◌, ap, inl, inr, arith}
 use Rattle.std.proofs.lemmas.Bool.{false≢true}
 use Rattle.dine_graph.specs.Plan.{edges_of}
 use Rattle.dine_rules.specs.declared.breach.Breach.{Breach}
@@ -13,7 +13,7 @@ use Rattle.dine_wire.specs.declared.note.Note.{Note}
 use Rattle.dine_wire.specs.declared.wire_fault.WireFault.{WireFault}
 use Rattle.dine_wire.specs.declared.wire_fault.WireFault.TheVariants as fault
 use Rattle.dine_wire.proofs.shared.LettersOfRuns.{is_of_own}
-use Rattle.dine_ffi.specs.Answers.{IsDoneOr, IsRefused, breach_status, done, other_edge}
+use Rattle.dine_ffi.specs.Answers.{IsDoneOr, IsRefused, breach_status, other_edge}
 use Rattle.dine_ffi.specs.OwnSites.{IsEdgeOfNone, SeenOwnSite, StandsFor, TakeRefuses, ReportRefuses, WordRefuses}
 
 -- ---- results
@@ -21,11 +21,6 @@ use Rattle.dine_ffi.specs.OwnSites.{IsEdgeOfNone, SeenOwnSite, StandsFor, TakeRe
 pub refused_is : (r : ℤ) (D R : Type 0) → IsRefused r → R → IsDoneOr r D R
 refused_is (pos n) D R is h = absurd is
 refused_is (negsuc n) D R is h = h
-
-pub done_or : (r : ℤ) (D R : Type 0) → (r ≡ done → D) → ((r ≡ done → ⊥) → IsRefused r) → ((r ≡ done → ⊥) → R) → IsDoneOr r D R
-done_or (pos zero) D R did is refused = did refl
-done_or (pos (suc n)) D R did is refused = absurd (is (λ same. absurd cc))
-done_or (negsuc n) D R did is refused = refused (λ same. absurd cc)
 
 -- ---- letters of other runs
 

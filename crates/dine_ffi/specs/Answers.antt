@@ -47,6 +47,14 @@ open_already = negsuc 7
 abbrev pub other_edge : ℤ
 other_edge = negsuc 13
 
+-- the site can do nothing before a letter arrives
+abbrev pub waits : ℤ
+waits = negsuc 15
+
+-- the site has done all, and put and taken all letters
+abbrev pub finished : ℤ
+finished = negsuc 16
+
 -- what is returned of bytes that are refused
 abbrev pub wire_status : WireFault → ℤ
 wire_status fault.Length = negsuc 10

@@ -4,8 +4,7 @@ use Rattle.std.specs.List.{list_any}
 use Rattle.std.specs.Str.{IsUtf8, bytes_eq}
 use Rattle.dine_token.specs.declared.act.Act.{Act}
 use Rattle.dine_token.specs.declared.act.Act.TheVariants as act
-use Rattle.dine_token.specs.declared.limits.TheConstants.{MAX_JOBS}
-use Rattle.dine_graph.specs.declared.limits.TheConstants.{MAX_EDGES, MAX_SITES}
+use Rattle.dine_graph.specs.declared.limits.TheConstants.{MAX_EDGES, MAX_SITES, MAX_TEXT_JOBS}
 use Rattle.dine_graph.specs.Plan.{is_name}
 use Rattle.dine_draft.specs.declared.drafts.DraftEdge.{DraftEdge}
 use Rattle.dine_draft.specs.declared.plan_fault.PlanFault.{PlanFault}
@@ -34,7 +33,7 @@ refusal_of_site name n d =
     if not (is_name name) then Some (fault.BadName (length d.sites)) else
     if list_any (bytes_eq name) (names_in d) then Some (fault.SiteTwice (length d.sites)) else
     if nat_le MAX_SITES (length d.sites) then Some fault.TooManySites else
-    if nat_lt MAX_JOBS n then Some (fault.TooManyJobs (length d.sites)) else None
+    if nat_lt MAX_TEXT_JOBS n then Some (fault.TooManyJobs (length d.sites)) else None
 
 -- Why an edge between sites a and b is not added: one of them is not there; both are one; they have an edge; or there
 -- are 512 edges. The first of these is the cause, at the number that the edge would have.

@@ -10,12 +10,12 @@ use Rattle.dine_rules.specs.Steps.{LocalStep, Step}
 use Rattle.dine_wire.specs.Carried.{letter_bytes}
 use Rattle.dine_ffi.specs.Acts.{put_step}
 use Rattle.dine_ffi.specs.Events.{kind_numbered}
-use Rattle.dine_ffi.specs.OwnSites.{ActsOrRefuses, BeginsOrRefuses, EndsOrRefuses, PutsOrRefuses, SeenOwnSite, StepsOrRefuses, TakesOrRefuses}
+use Rattle.dine_ffi.specs.OwnSites.{ActsOrRefuses, BeginsOrRefuses, EndsOrRefuses, PutsOrRefuses, SeenOwnSite, StepsOrRefuses, TakesOrRefuses, TurnsOrRefuses}
 use Rattle.dine_ffi.specs.declared.acts.PutKind.{PutKind}
 use Rattle.dine_ffi.specs.declared.event.DineEvent.{DineEvent}
 
 -- A call that may change a site: an End with whether the job failed, a letter to be put at a place, an event to be
--- done, or the bytes of a letter to be taken.
+-- done, a turn with the event that it wrote, or the bytes of a letter to be taken.
 pub data Call : Type 0 where
   Hungry : Call
   Begin : Call
@@ -23,6 +23,7 @@ pub data Call : Type 0 where
   Quit : Call
   Put : PutKind → ℕ → Call
   Act : DineEvent → Call
+  Turn : DineEvent → Call
   Take : List ℕ → Call
 
 -- the call returned this, and made of the one site the other, as its contract says
@@ -33,6 +34,7 @@ Returns (End failed) result old new = EndsOrRefuses failed result old new
 Returns Quit result old new = StepsOrRefuses step.Quit result old new
 Returns (Put kind i) result old new = (out : List ℕ) × (out_new : List ℕ) × PutsOrRefuses i (put_step kind i) out out_new result old new
 Returns (Act event) result old new = (out : List ℕ) × (out_new : List ℕ) × ActsOrRefuses event out out_new result old new
+Returns (Turn event) result old new = (before : DineEvent) × (out : List ℕ) × (out_new : List ℕ) × TurnsOrRefuses before event out out_new result old new
 Returns (Take bytes) result old new = TakesOrRefuses bytes result old new
 
 -- the calls, each with what it returned, lead from the one site to the other, one after the other
@@ -43,24 +45,22 @@ CallsLead (call ∷ calls) old new = (next : SeenOwnSite) × Returns call.0 call
 -- the step that a call for an event of this kind does: a job that ends went well, and a letter is taken by another call
 abbrev pub step_of_act : Option EventKind → Option Step
 step_of_act None = None
-step_of_act (Some (kinds.Take i)) = None
-step_of_act (Some kinds.Hungry) = Some step.Hungry
-step_of_act (Some kinds.Begin) = Some step.Begin
-step_of_act (Some kinds.End) = Some (step.End false)
-step_of_act (Some kinds.Quit) = Some step.Quit
-step_of_act (Some (kinds.Give i)) = Some (step.Give i)
-step_of_act (Some (kinds.Ask i)) = Some (step.Ask i)
-step_of_act (Some (kinds.Done i)) = Some (step.Done i)
-step_of_act (Some (kinds.Close i)) = Some (step.Close i)
+step_of_act (Some kind) = step.step_by false (λ i. None) kind
 
--- the step that the call names, at this site of the plan; a Take takes the letter of the run whose bytes these are
+-- the step of an event of this site
+abbrev pub IsStepOfEvent : ℕ → DineEvent → Step → Type 0
+IsStepOfEvent s event did = (event.site ≡ s) × (step_of_act (kind_numbered event.kind event.place) ≡ Some did)
+
+-- The step that the call names, at this site of the plan. A turn names it by the event that it writes, and a Take takes
+-- the letter of the run whose bytes these are.
 abbrev pub IsStepOf : SeenPlan → ℕ → ℕ → Call → Step → Type 0
 IsStepOf plan run s Hungry did = did ≡ step.Hungry
 IsStepOf plan run s Begin did = did ≡ step.Begin
 IsStepOf plan run s (End failed) did = did ≡ step.End failed
 IsStepOf plan run s Quit did = did ≡ step.Quit
 IsStepOf plan run s (Put kind i) did = did ≡ put_step kind i
-IsStepOf plan run s (Act event) did = (event.site ≡ s) × (step_of_act (kind_numbered event.kind event.place) ≡ Some did)
+IsStepOf plan run s (Act event) did = IsStepOfEvent s event did
+IsStepOf plan run s (Turn event) did = IsStepOfEvent s event did
 IsStepOf plan run s (Take bytes) did = (i : ℕ) × (letter : Letter) × (did ≡ step.Take i letter) × (bytes ≡ letter_bytes run (edge_at plan s i) letter)
 
 -- the steps are those of the calls that did not refuse, in order

@@ -1,5 +1,5 @@
 -- A site with its plan, its meal and the forks that it keeps, as contracts see it; and what its calls do.
-use Rattle.std.specs.Prelude.{◌≡◌, ◌≢◌, ◌⊎◌, ℕ, ℤ, ◌<◌, ◌≤◌, Bool, false, true, List, Option, Some, None, length, map, nat_le, nat_lt, slice_set, if◌then◌else◌}
+use Rattle.std.specs.Prelude.{◌≡◌, ◌≢◌, ◌⊎◌, ℕ, ℤ, ◌<◌, ◌≤◌, Bool, false, true, List, Option, Some, None, length, map, nat_le, nat_lt, pos, slice_set, if◌then◌else◌}
 use Rattle.dine_token.specs.Fork.{SeenFork}
 use Rattle.dine_token.specs.Log.{is_dirty}
 use Rattle.dine_token.specs.Meal.{SeenMeal}
@@ -12,11 +12,14 @@ use Rattle.dine_rules.specs.declared.breach.Breach.{Breach}
 use Rattle.dine_rules.specs.Breach.{first_breach}
 use Rattle.dine_rules.specs.Holdings.{EatsWithAll}
 use Rattle.dine_rules.specs.Local.{LocalState, edge_at, is_eating, traffic_at}
+use Rattle.dine_rules.specs.declared.events.Shape.{Shape}
+use Rattle.dine_rules.specs.declared.events.Shape.TheVariants.{Puts, Alone}
 use Rattle.dine_rules.specs.Steps as step
 use Rattle.dine_rules.specs.Steps.{Step, after, may}
 use Rattle.dine_rules.specs.Streams.{KeepsStreams}
 use Rattle.dine_site.specs.Core.{SeenCore, Refines, forks_in_hand}
-use Rattle.dine_site.specs.Places.{IsMealOf}
+use Rattle.dine_site.specs.NextEvent.{next_of}
+use Rattle.dine_site.specs.Places.{IsMealOf, has_all_said}
 use Rattle.dine_site.specs.declared.site.places.ForkSlot.{ForkSlot}
 use Rattle.dine_site.specs.declared.site.places.ForkSlot.TheVariants as slot
 use Rattle.dine_site.specs.Standing.{CorePuts, CoreStep, CoreSteps, ForEachState, IsFreshFor, all_places}
@@ -30,8 +33,8 @@ use Rattle.dine_wire.specs.declared.note.Report.{Report}
 use Rattle.dine_wire.specs.declared.note.Report.TheVariants as report
 use Rattle.dine_wire.specs.declared.wire_fault.WireFault.{WireFault}
 use Rattle.dine_wire.specs.declared.wire_fault.WireFault.TheVariants as fault
-use Rattle.dine_ffi.specs.Answers.{IsDoneOr, IsOkOr, breach_status, eating, memory, no_such, not_now, other_edge, small, wire_status}
-use Rattle.dine_ffi.specs.Events.{kind_numbered}
+use Rattle.dine_ffi.specs.Answers.{IsDoneOr, IsOkOr, IsRefused, breach_status, eating, finished, memory, no_such, not_now, other_edge, small, waits, wire_status}
+use Rattle.dine_ffi.specs.Events.{kind_numbered, seen_event}
 use Rattle.dine_ffi.specs.declared.event.DineEvent.{DineEvent}
 use Rattle.dine_ffi.specs.Shelves.{IsForkBreach, first_kept, kept_at, put_away, taken_off}
 use Rattle.dine_ffi.specs.Written.{AreWritten}
@@ -201,25 +204,46 @@ BeginsOrRefuses result old new = IsOkOr result (SiteBegins old new) ((new ≡ ol
 abbrev pub EndsOrRefuses : Bool → ℤ → SeenOwnSite → SeenOwnSite → Type 0
 EndsOrRefuses failed result old new = IsOkOr result (SiteEnds failed old new) ((new ≡ old) × MayNot (step.End failed) old × (result ≡ not_now))
 
--- A call for an event of this kind is as the call for the kind: a letter is written to the front of `out`. To take a
--- letter is the part of another call, so a Take is refused, as a number that is no kind; then nothing changes.
+-- a call for an event with this shape and this step: a letter that the event puts is written to the front of `out`
+abbrev pub ActsBy : Shape → Option Step → List ℕ → List ℕ → ℤ → SeenOwnSite → SeenOwnSite → Type 0
+ActsBy (Puts i) (Some step) out out_new result old new = PutsOrRefuses i step out out_new result old new
+ActsBy Alone (Some step) out out_new result old new = StepsOrRefuses step result old new × (out_new ≡ out)
+ActsBy _ _ out out_new result old new = (result ≡ no_such) × (new ≡ old) × (out_new ≡ out)
+
+-- A call for an event of this kind is as the call for the kind. To take a letter is the part of another call, so a Take
+-- is refused, as a number that is no kind; then nothing changes.
 abbrev pub ActsAs : Option EventKind → List ℕ → List ℕ → ℤ → SeenOwnSite → SeenOwnSite → Type 0
 ActsAs None out out_new result old new = (result ≡ no_such) × (new ≡ old) × (out_new ≡ out)
-ActsAs (Some (kind.Take i)) out out_new result old new = (result ≡ no_such) × (new ≡ old) × (out_new ≡ out)
-ActsAs (Some kind.Hungry) out out_new result old new = StepsOrRefuses step.Hungry result old new × (out_new ≡ out)
 ActsAs (Some kind.Begin) out out_new result old new = BeginsOrRefuses result old new × (out_new ≡ out)
 ActsAs (Some kind.End) out out_new result old new = EndsOrRefuses false result old new × (out_new ≡ out)
-ActsAs (Some kind.Quit) out out_new result old new = StepsOrRefuses step.Quit result old new × (out_new ≡ out)
-ActsAs (Some (kind.Give i)) out out_new result old new = PutsOrRefuses i (step.Give i) out out_new result old new
-ActsAs (Some (kind.Ask i)) out out_new result old new = PutsOrRefuses i (step.Ask i) out out_new result old new
-ActsAs (Some (kind.Done i)) out out_new result old new = PutsOrRefuses i (step.Done i) out out_new result old new
-ActsAs (Some (kind.Close i)) out out_new result old new = PutsOrRefuses i (step.Close i) out out_new result old new
+ActsAs (Some kind) out out_new result old new = ActsBy (step.shape_of kind) (step.step_by false (λ i. None) kind) out out_new result old new
 
 -- A call for an event of the site does it, or refuses. An event of another site is refused, and nothing changes.
 abbrev pub ActsOrRefuses : DineEvent → List ℕ → List ℕ → ℤ → SeenOwnSite → SeenOwnSite → Type 0
 ActsOrRefuses event out out_new result old new =
     (event.site ≡ old.core.site → ActsAs (kind_numbered event.kind event.place) out out_new result old new)
     × (event.site ≢ old.core.site → ActsAs None out out_new result old new)
+
+-- what a turn returns if there is no event: that the site has finished, or that it waits for a letter
+abbrev pub idle_status : SeenCore → ℤ
+idle_status core = if has_all_said core then finished else waits
+
+-- The site, the event and the bytes are as before.
+pub record TurnChangesNothing (event event_new : DineEvent) (out out_new : List ℕ) (old new : SeenOwnSite) : Type 0 where
+  pub site_stays : new ≡ old
+  pub event_stays : event_new ≡ event
+  pub bytes_stay : out_new ≡ out
+
+-- A turn in a meal refuses, since the caller has to end it. Else it does the first event that the site may do by
+-- itself, as the call for this event does, and writes the event; or there is none, and the turn returns why. A turn
+-- that finds an event refuses only if this puts a letter and `out` has fewer than 29 bytes.
+pub record TurnsOrRefuses (event event_new : DineEvent) (out out_new : List ℕ) (result : ℤ) (old new : SeenOwnSite) : Type 0 where
+  pub eats : is_eating old.core.phase ≡ true → (result ≡ eating) × TurnChangesNothing event event_new out out_new old new
+  pub idle : is_eating old.core.phase ≡ false → next_of old.core ≡ None → (result ≡ idle_status old.core) × TurnChangesNothing event event_new out out_new old new
+  pub acts : is_eating old.core.phase ≡ false → (next : EventKind) → next_of old.core ≡ Some next → ActsAs (Some next) out out_new result old new
+      × IsDoneOr result (event_new ≡ seen_event old.core.site next) (event_new ≡ event)
+  pub few_bytes : is_eating old.core.phase ≡ false → (next : EventKind) → next_of old.core ≡ Some next → IsRefused result
+      → (state : LocalState) → StandsFor state old → (result ≡ small) × (length out < 29)
 
 -- P holds of each fork that may arrive with this note at place i
 abbrev pub ForEachFork : ℕ → ForkNote → SeenOwnSite → (SeenFork → Type 0) → Type 0
@@ -270,10 +294,10 @@ TakeRefuses bytes result state own =
     ⊎ ((note : Note) × IsInBytes note × (bytes ≡ bytes_in_run own.run note)
     × (((result ≡ other_edge) × IsEdgeOfNone note.edge own) ⊎ ((i : ℕ) × IsPlaceOf i note own × ReportRefuses i note.edge note.report result state own)))
 
--- A call with the bytes of a letter takes the letter that arrives with them at one of the places, and returns 0. Or it
--- refuses, and a site that represents a state is as it was. If the bytes begin with the number of another run, it
--- refuses for that before anything else, and nothing changes.
+-- A call with the bytes of a letter takes the letter that arrives with them at one of the places, and returns this
+-- place. Or it refuses, and a site that represents a state is as it was. If the bytes begin with the number of another
+-- run, it refuses for that before anything else, and nothing changes.
 pub record TakesOrRefuses (bytes : List ℕ) (result : ℤ) (old new : SeenOwnSite) : Type 0 where
-  pub outcome : IsOkOr result ((i : ℕ) × (letter : Letter) × SiteTakes bytes i letter old new)
+  pub outcome : IsDoneOr result ((i : ℕ) × (letter : Letter) × (result ≡ pos i) × SiteTakes bytes i letter old new)
       ((state : LocalState) → StandsFor state old → (new ≡ old) × TakeRefuses bytes result state old)
   pub other_run : 8 ≤ length bytes → is_of_run old.run bytes ≡ false → (result ≡ wire_status fault.OtherRun) × (new ≡ old)

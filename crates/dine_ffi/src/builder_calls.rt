@@ -12,6 +12,7 @@ ghost use Rattle.dine_ffi.specs.Contents.{BuilderCall, HoldsBuilder, HoldsPlan, 
 
 use crate::contents::{Contents, Object};
 use crate::handle::Handle;
+use crate::on_held::on_held;
 use crate::own_builder::OwnBuilder;
 use crate::own_plan::OwnPlan;
 use crate::plan_calls::open;
@@ -42,15 +43,7 @@ pub extern "C" fn dine_raw_plan_builder_site(
 ) -> i64
     ensures becomes { BuilderCall (AddsSiteOrRefuses name.now jobs) result handle.old.slot.held handle.new.slot.held }
 {
-    let Some(mut contents) = handle.take(alloc) else {
-        return CLOSED;
-    };
-    let answer = match &mut contents.object {
-        Object::Builder(builder) => builder.site(alloc, name, jobs),
-        Object::Plan(_) | Object::World(_) | Object::Site(_) => OTHER_KIND,
-    };
-    handle.put(contents);
-    answer
+    on_held!(alloc, handle, mut Builder(builder) => builder.site(alloc, name, jobs))
 }
 
 /// Adds an edge between two sites that are there, in either order, and returns its number.
@@ -63,15 +56,7 @@ pub extern "C" fn dine_raw_plan_builder_edge(
 ) -> i64
     ensures becomes { BuilderCall (AddsEdgeOrRefuses a b) result handle.old.slot.held handle.new.slot.held }
 {
-    let Some(mut contents) = handle.take(alloc) else {
-        return CLOSED;
-    };
-    let answer = match &mut contents.object {
-        Object::Builder(builder) => builder.edge(a, b),
-        Object::Plan(_) | Object::World(_) | Object::Site(_) => OTHER_KIND,
-    };
-    handle.put(contents);
-    answer
+    on_held!(alloc, handle, mut Builder(builder) => builder.edge(a, b))
 }
 
 /// Sets the value of an edge before the first meal.
@@ -86,15 +71,7 @@ pub extern "C" fn dine_raw_plan_builder_value(
         (fault.ValueTooLarge edge) (has_edge edge old) (with_value edge value old) result old new) result
         handle.old.slot.held handle.new.slot.held }
 {
-    let Some(mut contents) = handle.take(alloc) else {
-        return CLOSED;
-    };
-    let answer = match &mut contents.object {
-        Object::Builder(builder) => builder.value(edge, value),
-        Object::Plan(_) | Object::World(_) | Object::Site(_) => OTHER_KIND,
-    };
-    handle.put(contents);
-    answer
+    on_held!(alloc, handle, mut Builder(builder) => builder.value(edge, value))
 }
 
 /// Makes a site drop the jobs that it has left after one failed.
@@ -103,15 +80,7 @@ pub extern "C" fn dine_raw_plan_builder_resign(alloc: Global, handle: &mut Handl
     ensures becomes { BuilderCall (λ result old new. ChangesOrRefuses true fault.Memory (has_site site old)
         (with_resigning site old) result old new) result handle.old.slot.held handle.new.slot.held }
 {
-    let Some(mut contents) = handle.take(alloc) else {
-        return CLOSED;
-    };
-    let answer = match &mut contents.object {
-        Object::Builder(builder) => builder.resign(site),
-        Object::Plan(_) | Object::World(_) | Object::Site(_) => OTHER_KIND,
-    };
-    handle.put(contents);
-    answer
+    on_held!(alloc, handle, mut Builder(builder) => builder.resign(site))
 }
 
 /// Sets the number of turns of job `k` of a site, from 1.
@@ -127,15 +96,7 @@ pub extern "C" fn dine_raw_plan_builder_turns(
         (fault.TurnsTooLarge site) (has_job site k old) (with_turns site k turns old) result old new) result
         handle.old.slot.held handle.new.slot.held }
 {
-    let Some(mut contents) = handle.take(alloc) else {
-        return CLOSED;
-    };
-    let answer = match &mut contents.object {
-        Object::Builder(builder) => builder.turns(site, k, turns),
-        Object::Plan(_) | Object::World(_) | Object::Site(_) => OTHER_KIND,
-    };
-    handle.put(contents);
-    answer
+    on_held!(alloc, handle, mut Builder(builder) => builder.turns(site, k, turns))
 }
 
 /// Makes job `k` of a site fail, from 1.
@@ -149,15 +110,7 @@ pub extern "C" fn dine_raw_plan_builder_fails(
     ensures becomes { BuilderCall (λ result old new. ChangesOrRefuses true fault.Memory (has_job site k old)
         (with_failure site k old) result old new) result handle.old.slot.held handle.new.slot.held }
 {
-    let Some(mut contents) = handle.take(alloc) else {
-        return CLOSED;
-    };
-    let answer = match &mut contents.object {
-        Object::Builder(builder) => builder.fails(site, k),
-        Object::Plan(_) | Object::World(_) | Object::Site(_) => OTHER_KIND,
-    };
-    handle.put(contents);
-    answer
+    on_held!(alloc, handle, mut Builder(builder) => builder.fails(site, k))
 }
 
 /// Sets what the meal of job `k` of a site, from 1, does to the value of each edge of the site: it sets the value to
@@ -175,15 +128,7 @@ pub extern "C" fn dine_raw_plan_builder_act(
         (fault.ActTooLarge site) (has_job site k old) (with_act site k (act_of sets amount) old) result old new) result
         handle.old.slot.held handle.new.slot.held }
 {
-    let Some(mut contents) = handle.take(alloc) else {
-        return CLOSED;
-    };
-    let answer = match &mut contents.object {
-        Object::Builder(builder) => builder.act(site, k, sets, amount),
-        Object::Plan(_) | Object::World(_) | Object::Site(_) => OTHER_KIND,
-    };
-    handle.put(contents);
-    answer
+    on_held!(alloc, handle, mut Builder(builder) => builder.act(site, k, sets, amount))
 }
 
 /// Makes the plan of what the handle `builder` holds, which stays as it is. The handle `plan`, which is closed, holds

@@ -4,8 +4,8 @@ ghost use Rattle.dine_ffi.specs.Events.{kind_numbered, seen_event};
 
 use dine_rules::EventKind;
 
-/// An event: the site, the number of its kind and its place, 0 if it has none. The kinds are 0 Take, 1 Give, 2 End,
-/// 3 Begin, 4 Quit, 5 Hungry, 6 Ask, 7 Done, 8 Close.
+/// An event: the site, the number of its kind and its place, 0 if it has none. The number of a kind is its position in
+/// [`EventKind`], from 0.
 #[repr(C)]
 #[derive(Clone, Copy)]
 pub struct DineEvent {
@@ -19,6 +19,7 @@ pub(crate) fn kind_of(kind: u32, place: u32) -> Option<EventKind>
     ensures { result ≡ kind_numbered kind place }
 {
     match kind {
+        // words kinds by number, by tools/words
         0 => Some(EventKind::Take(place)),
         1 => Some(EventKind::Give(place)),
         2 => Some(EventKind::End),
@@ -28,6 +29,7 @@ pub(crate) fn kind_of(kind: u32, place: u32) -> Option<EventKind>
         6 => Some(EventKind::Ask(place)),
         7 => Some(EventKind::Done(place)),
         8 => Some(EventKind::Close(place)),
+        // end
         _ => None,
     }
 }
@@ -37,6 +39,7 @@ pub(crate) fn event_of(site: u32, kind: EventKind) -> DineEvent
     ensures { result ≡ seen_event site kind }
 {
     let (kind, place) = match kind {
+        // words kinds to numbers, by tools/words
         EventKind::Take(place) => (0, place),
         EventKind::Give(place) => (1, place),
         EventKind::End => (2, 0),
@@ -46,6 +49,7 @@ pub(crate) fn event_of(site: u32, kind: EventKind) -> DineEvent
         EventKind::Ask(place) => (6, place),
         EventKind::Done(place) => (7, place),
         EventKind::Close(place) => (8, place),
+        // end
     };
     DineEvent { site, kind, place }
 }

@@ -8,6 +8,7 @@ mod copying;
 pub mod event;
 pub mod handle;
 pub mod laws;
+mod on_held;
 mod own_builder;
 mod own_plan;
 mod own_site;

@@ -16,8 +16,8 @@ ghost use Rattle.dine_ffi.specs.Builders.{ends_in, names_in, refusal_of_edge, re
 use crate::status::{DONE, MEMORY, NO_SUCH, plan_status};
 use dine_builder::{Missing, PlanBuilder};
 use dine_draft::PlanFault;
-use dine_graph::{EdgeId, MAX_EDGES, MAX_NAME, MAX_SITES, MAX_TURNS, Plan, SiteId};
-use dine_token::{Act, MAX_JOBS, MAX_NUMBER};
+use dine_graph::{EdgeId, MAX_EDGES, MAX_NAME, MAX_SITES, MAX_TEXT_JOBS, MAX_TURNS, Plan, SiteId};
+use dine_token::{Act, MAX_NUMBER};
 use std::alloc::{AllocError, Global};
 use std::marker::Model;
 
@@ -100,7 +100,7 @@ impl OwnBuilder {
         if number >= MAX_SITES {
             return Some(PlanFault::TooManySites);
         }
-        if jobs > MAX_JOBS {
+        if jobs > MAX_TEXT_JOBS {
             return Some(PlanFault::TooManyJobs(number));
         }
         None

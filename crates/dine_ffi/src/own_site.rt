@@ -13,9 +13,9 @@ ghost use Rattle.dine_site.specs.Standing.{ReportsBreach};
 ghost use Rattle.dine_ffi.specs.Acts.{put_step};
 ghost use Rattle.dine_ffi.specs.Answers.{IsDoneOr, IsRefused, Reports, breach_status, done, no_such, number_of};
 ghost use Rattle.dine_ffi.specs.Events.{seen_event};
-ghost use Rattle.dine_ffi.specs.OwnSites.{ActsOrRefuses, BeginsOrRefuses, EndsOrRefuses, ForkRefuses, IsEdgeOfNone};
-ghost use Rattle.dine_ffi.specs.OwnSites.{IsNoPlace, IsOpened, PutsOrRefuses, SiteSteps, is_used};
-ghost use Rattle.dine_ffi.specs.OwnSites.{SiteTakesFork, StandsFor, StepsOrRefuses, TakesOrRefuses};
+ghost use Rattle.dine_ffi.specs.OwnSites.{ActsAs, ActsOrRefuses, BeginsOrRefuses, EndsOrRefuses, ForkRefuses};
+ghost use Rattle.dine_ffi.specs.OwnSites.{IsEdgeOfNone, IsNoPlace, IsOpened, PutsOrRefuses, SiteSteps, is_used};
+ghost use Rattle.dine_ffi.specs.OwnSites.{SiteTakesFork, StandsFor, StepsOrRefuses, TakesOrRefuses, TurnsOrRefuses};
 ghost use Rattle.dine_ffi.specs.Written.{ArePeriods};
 
 use crate::acts::{PutKind, put, take};
@@ -24,8 +24,8 @@ use crate::own_plan::OwnPlan;
 use crate::periods::write_periods;
 use crate::shelf::{first_shelf, put_away, refusal_of, take_back};
 use crate::status::{
-    DONE, EATING, NO_SUCH, NOT_NOW, OTHER_EDGE, SMALL, breach_status, number, phase_number,
-    wire_status,
+    DONE, EATING, FINISHED, NO_SUCH, NOT_NOW, OTHER_EDGE, SMALL, WAITS, breach_status, number,
+    phase_number, wire_status,
 };
 use dine_rules::{Breach, EventKind, Letter};
 use dine_site::SiteCore;
@@ -64,6 +64,8 @@ pub struct DinePlace {
     pub has_token: u32,
     /// 1 if the fork is here and dirty: in the meal, or eaten with since it came. Else 0.
     pub is_dirty: u32,
+    /// 1 if Close was taken there, else 0.
+    pub is_closed: u32,
 }
 
 /// A site, its plan, the number of its run, its meal if it eats, and the forks that it gave away, as they were then.
@@ -109,6 +111,14 @@ fn status_of(taken: Result<(), (Letter, i64)>) -> i64
         Ok(()) => DONE,
         Err((_, status)) => status,
     }
+}
+
+// The place, if a letter was taken there; else why it was not.
+fn at_place(i: u32, taken: i64) -> i64
+    ensures done { taken ≡ pos 0 → result ≡ pos i }
+    ensures refused { (taken ≡ pos 0 → ⊥) → result ≡ taken }
+{
+    if taken == DONE { i64::from(i) } else { taken }
 }
 
 // The core after its meal, if it eats.
@@ -274,7 +284,38 @@ impl OwnSite {
         }
     }
 
-    /// Takes the letter whose bytes these are. If it is of another run, it is refused before anything else.
+    /// Does the first event that the site may do by itself, and writes it. Writes the letter that it puts, and returns
+    /// the number of its bytes, or 0 if it puts none. To end a meal is left to the caller.
+    pub(crate) fn turn(&mut self, event: &mut DineEvent, out: &mut [u8]) -> i64
+        ensures turns { TurnsOrRefuses event.old event.new out.old out.new result self.old self.new }
+        ensures unwritten { IsDoneOr result Unit ((event.new ≡ event.old) × (out.new ≡ out.old)) }
+    {
+        if self.meal.is_some() {
+            return EATING;
+        }
+        match self.core.next_event() {
+            Some(kind) => self.turn_to(kind, event, out),
+            None if self.core.is_finished() => FINISHED,
+            None => WAITS,
+        }
+    }
+
+    // Does the event of this kind, and writes it.
+    fn turn_to(&mut self, kind: EventKind, event: &mut DineEvent, out: &mut [u8]) -> i64
+        ensures acts { ActsAs (Some kind) out.old out.new result self.old self.new }
+        ensures event { IsDoneOr result (event.new ≡ seen_event self.old.core.site kind) (event.new ≡ event.old) }
+        ensures unwritten { IsDoneOr result Unit (out.new ≡ out.old) }
+    {
+        let next = event_of(self.core.site(), kind);
+        let answer = self.act(next, out);
+        if 0 <= answer {
+            *event = next;
+        }
+        answer
+    }
+
+    /// Takes the letter whose bytes these are, and returns the place at which it arrived. One of another run is refused
+    /// before anything else.
     pub(crate) fn take(&mut self, alloc: Global, bytes: &[u8]) -> i64
         ensures { TakesOrRefuses bytes.now result self.old self.new }
     {
@@ -286,10 +327,15 @@ impl OwnSite {
             return OTHER_EDGE;
         };
         match note.report {
-            Report::Fork(fork) => self.take_fork(alloc, i, fork),
-            Report::Request => self.take_word(i, Letter::Request(Token::open(note.edge))),
-            Report::Done => self.take_word(i, Letter::Done),
-            Report::Close => self.take_word(i, Letter::Close),
+            Report::Fork(fork) => at_place(i, self.take_fork(alloc, i, fork)),
+            Report::Request => {
+                at_place(
+                    i,
+                    self.take_word(i, Letter::Request(Token::open(note.edge))),
+                )
+            }
+            Report::Done => at_place(i, self.take_word(i, Letter::Done)),
+            Report::Close => at_place(i, self.take_word(i, Letter::Close)),
         }
     }
 
@@ -401,6 +447,7 @@ impl OwnSite {
           has_fork = if is_held (place_at self.now.core i).fork then 1 else 0;
           has_token = if is_some (place_at self.now.core i).token then 1 else 0;
           is_dirty = if is_used (place_at self.now.core i).fork then 1 else 0;
+          is_closed = if (place_at self.now.core i).close_taken then 1 else 0;
         })) ((result ≡ no_such) × (out.new ≡ out.old) × IsNoPlace i self.now) }
         ensures unwritten { IsDoneOr result Unit (out.new ≡ out.old) }
     {
@@ -416,6 +463,7 @@ impl OwnSite {
             has_fork: u32::from(self.core.has_fork(i)),
             has_token: u32::from(self.core.has_token(i)),
             is_dirty: u32::from(is_used(self.core.slot(i))),
+            is_closed: u32::from(self.core.has_taken_close(i)),
         };
         DONE
     }

@@ -13,12 +13,12 @@ pub(crate) fn write_periods(fork: &Fork, out: &mut [u32]) -> i64
     for i in 0..periods {
         write_period(fork.period(i), 3 * (i as usize), out);
     }
-    i64::from(periods)
+    periods as i64
 }
 
 // Writes the three numbers of the period from `at` on, those that `out` has.
 fn write_period(period: Period, at: usize, out: &mut [u32])
-    requires { at ≤ 3 * 2 ^ 32 }
+    requires { at ≤ 3 * 2 ^ 33 }
     ensures { out.new ≡ slice_set (slice_set (slice_set out.old at period.site) (at + 1) period.first)
         (at + 2) period.count }
 {

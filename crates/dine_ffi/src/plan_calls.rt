@@ -10,8 +10,9 @@ ghost use Rattle.dine_draft.specs.declared.plan_fault.PlanFault.{PlanFault as Se
 
 use crate::contents::{Contents, Object};
 use crate::handle::Handle;
+use crate::on_held::on_held;
 use crate::own_plan::{DineEnds, OwnPlan, write_refusal};
-use crate::status::{CLOSED, DONE, MEMORY, OPEN_ALREADY, OTHER_KIND, plan_status};
+use crate::status::{CLOSED, DONE, MEMORY, OPEN_ALREADY, plan_status};
 use std::alloc::Global;
 
 /// Reads the plan whose text the bytes are. The handle, which is closed, holds it then.
@@ -77,15 +78,7 @@ pub extern "C" fn dine_raw_plan_version(alloc: Global, handle: &mut Handle) -> i
     ensures answer { OfHeld handle.old.slot.held result
         (λ object. OfPlan object result (λ plan. result ≡ pos plan.version)) }
 {
-    let Some(contents) = handle.take(alloc) else {
-        return CLOSED;
-    };
-    let answer = match &contents.object {
-        Object::Plan(plan) => i64::from(plan.plan().version()),
-        Object::World(_) | Object::Site(_) | Object::Builder(_) => OTHER_KIND,
-    };
-    handle.put(contents);
-    answer
+    on_held!(alloc, handle, Plan(plan) => i64::from(plan.plan().version()))
 }
 
 /// Returns the number of sites.
@@ -95,15 +88,7 @@ pub extern "C" fn dine_raw_plan_sites(alloc: Global, handle: &mut Handle) -> i64
     ensures answer { OfHeld handle.old.slot.held result (λ object. OfPlan object result
         (λ plan. result ≡ pos (site_count plan))) }
 {
-    let Some(contents) = handle.take(alloc) else {
-        return CLOSED;
-    };
-    let answer = match &contents.object {
-        Object::Plan(plan) => i64::from(plan.plan().sites()),
-        Object::World(_) | Object::Site(_) | Object::Builder(_) => OTHER_KIND,
-    };
-    handle.put(contents);
-    answer
+    on_held!(alloc, handle, Plan(plan) => i64::from(plan.plan().sites()))
 }
 
 /// Returns the number of edges.
@@ -113,15 +98,7 @@ pub extern "C" fn dine_raw_plan_edges(alloc: Global, handle: &mut Handle) -> i64
     ensures answer { OfHeld handle.old.slot.held result (λ object. OfPlan object result
         (λ plan. result ≡ pos (edge_count plan))) }
 {
-    let Some(contents) = handle.take(alloc) else {
-        return CLOSED;
-    };
-    let answer = match &contents.object {
-        Object::Plan(plan) => i64::from(plan.plan().edges()),
-        Object::World(_) | Object::Site(_) | Object::Builder(_) => OTHER_KIND,
-    };
-    handle.put(contents);
-    answer
+    on_held!(alloc, handle, Plan(plan) => i64::from(plan.plan().edges()))
 }
 
 /// Returns the number of jobs of the site.
@@ -131,15 +108,7 @@ pub extern "C" fn dine_raw_plan_jobs(alloc: Global, handle: &mut Handle, site: u
     ensures answer { OfHeld handle.old.slot.held result (λ object. OfPlan object result
         (λ plan. IsWithin site (site_count plan) result (result ≡ pos (job_count plan site)))) }
 {
-    let Some(contents) = handle.take(alloc) else {
-        return CLOSED;
-    };
-    let answer = match &contents.object {
-        Object::Plan(plan) => plan.jobs(site),
-        Object::World(_) | Object::Site(_) | Object::Builder(_) => OTHER_KIND,
-    };
-    handle.put(contents);
-    answer
+    on_held!(alloc, handle, Plan(plan) => plan.jobs(site))
 }
 
 /// Writes the name of the site, and returns the number of its bytes. No more are written than `out` has.
@@ -156,15 +125,7 @@ pub extern "C" fn dine_raw_plan_name(
         × (out.new ≡ over_front (name_of plan site) out.old)))) }
     ensures unwritten { IsDoneOr result Unit (out.new ≡ out.old) }
 {
-    let Some(contents) = handle.take(alloc) else {
-        return CLOSED;
-    };
-    let answer = match &contents.object {
-        Object::Plan(plan) => plan.name(site, out),
-        Object::World(_) | Object::Site(_) | Object::Builder(_) => OTHER_KIND,
-    };
-    handle.put(contents);
-    answer
+    on_held!(alloc, handle, Plan(plan) => plan.name(site, out))
 }
 
 /// Writes the two ends of the edge.
@@ -181,13 +142,5 @@ pub extern "C" fn dine_raw_plan_ends(
         × (out.new ≡ record { lower = lo_of plan edge; higher = hi_of plan edge })))) }
     ensures unwritten { IsDoneOr result Unit (out.new ≡ out.old) }
 {
-    let Some(contents) = handle.take(alloc) else {
-        return CLOSED;
-    };
-    let answer = match &contents.object {
-        Object::Plan(plan) => plan.ends(edge, out),
-        Object::World(_) | Object::Site(_) | Object::Builder(_) => OTHER_KIND,
-    };
-    handle.put(contents);
-    answer
+    on_held!(alloc, handle, Plan(plan) => plan.ends(edge, out))
 }

@@ -9,7 +9,7 @@ ghost use Rattle.dine_ffi.specs.Answers.{IsDoneOr, IsOkOr, IsWithin, Reports, do
 ghost use Rattle.dine_ffi.specs.Answers.{number_of, open_already};
 ghost use Rattle.dine_ffi.specs.Events.{seen_event};
 ghost use Rattle.dine_ffi.specs.OwnSites.{ActsOrRefuses, BeginsOrRefuses, EndsOrRefuses, IsNoPlace, IsOpened};
-ghost use Rattle.dine_ffi.specs.OwnSites.{PutsOrRefuses, StepsOrRefuses, TakesOrRefuses, is_used};
+ghost use Rattle.dine_ffi.specs.OwnSites.{PutsOrRefuses, StepsOrRefuses, TakesOrRefuses, TurnsOrRefuses, is_used};
 ghost use Rattle.dine_ffi.specs.Contents.{HoldsPlan, HoldsSite, OfHeld, OfPlan, OfSite, OnPlan, SiteCall};
 ghost use Rattle.dine_ffi.specs.Written.{ArePeriods};
 
@@ -17,6 +17,7 @@ use crate::acts::PutKind;
 use crate::contents::{Contents, Object};
 use crate::event::DineEvent;
 use crate::handle::Handle;
+use crate::on_held::on_held;
 use crate::own_plan::OwnPlan;
 use crate::own_site::{DinePlace, DineSiteState, OwnSite};
 use crate::plan_calls::open;
@@ -122,15 +123,7 @@ pub extern "C" fn dine_raw_site_state(
         }))) }
     ensures unwritten { IsDoneOr result Unit (out.new ≡ out.old) }
 {
-    let Some(contents) = handle.take(alloc) else {
-        return CLOSED;
-    };
-    let answer = match &contents.object {
-        Object::Site(site) => site.state(out),
-        Object::Plan(_) | Object::World(_) | Object::Builder(_) => OTHER_KIND,
-    };
-    handle.put(contents);
-    answer
+    on_held!(alloc, handle, Site(site) => site.state(out))
 }
 
 /// Writes what the site has at place `i`.
@@ -151,19 +144,12 @@ pub extern "C" fn dine_raw_site_place(
           has_fork = if is_held (place_at own.core i).fork then 1 else 0;
           has_token = if is_some (place_at own.core i).token then 1 else 0;
           is_dirty = if is_used (place_at own.core i).fork then 1 else 0;
+          is_closed = if (place_at own.core i).close_taken then 1 else 0;
         })) ((result ≡ no_such)
         × (out.new ≡ out.old) × IsNoPlace i own))) }
     ensures unwritten { IsDoneOr result Unit (out.new ≡ out.old) }
 {
-    let Some(contents) = handle.take(alloc) else {
-        return CLOSED;
-    };
-    let answer = match &contents.object {
-        Object::Site(site) => site.place_state(i, out),
-        Object::Plan(_) | Object::World(_) | Object::Builder(_) => OTHER_KIND,
-    };
-    handle.put(contents);
-    answer
+    on_held!(alloc, handle, Site(site) => site.place_state(i, out))
 }
 
 /// Writes the first event that the site may do without a letter. Returns 1, or 0 if there is none.
@@ -175,15 +161,7 @@ pub extern "C" fn dine_raw_site_next(alloc: Global, handle: &mut Handle, out: &m
         × (out.new ≡ seen_event own.core.site kind)))) }
     ensures unwritten { IsDoneOr result Unit (out.new ≡ out.old) }
 {
-    let Some(contents) = handle.take(alloc) else {
-        return CLOSED;
-    };
-    let answer = match &contents.object {
-        Object::Site(site) => site.next(out),
-        Object::Plan(_) | Object::World(_) | Object::Builder(_) => OTHER_KIND,
-    };
-    handle.put(contents);
-    answer
+    on_held!(alloc, handle, Site(site) => site.next(out))
 }
 
 /// The site grows hungry.
@@ -191,15 +169,7 @@ pub extern "C" fn dine_raw_site_next(alloc: Global, handle: &mut Handle, out: &m
 pub extern "C" fn dine_raw_site_hungry(alloc: Global, handle: &mut Handle) -> i64
     ensures becomes { SiteCall (StepsOrRefuses step.Hungry) result handle.old.slot.held handle.new.slot.held }
 {
-    let Some(mut contents) = handle.take(alloc) else {
-        return CLOSED;
-    };
-    let answer = match &mut contents.object {
-        Object::Site(site) => site.hungry(),
-        Object::Plan(_) | Object::World(_) | Object::Builder(_) => OTHER_KIND,
-    };
-    handle.put(contents);
-    answer
+    on_held!(alloc, handle, mut Site(site) => site.hungry())
 }
 
 /// The site drops the jobs that it has left.
@@ -207,15 +177,7 @@ pub extern "C" fn dine_raw_site_hungry(alloc: Global, handle: &mut Handle) -> i6
 pub extern "C" fn dine_raw_site_quit(alloc: Global, handle: &mut Handle) -> i64
     ensures becomes { SiteCall (StepsOrRefuses step.Quit) result handle.old.slot.held handle.new.slot.held }
 {
-    let Some(mut contents) = handle.take(alloc) else {
-        return CLOSED;
-    };
-    let answer = match &mut contents.object {
-        Object::Site(site) => site.quit(),
-        Object::Plan(_) | Object::World(_) | Object::Builder(_) => OTHER_KIND,
-    };
-    handle.put(contents);
-    answer
+    on_held!(alloc, handle, mut Site(site) => site.quit())
 }
 
 /// Gives the fork of place `i`, and writes the letter. Returns the number of its bytes.
@@ -230,15 +192,7 @@ pub extern "C" fn dine_raw_site_give(
         handle.old.slot.held handle.new.slot.held }
     ensures unwritten { IsDoneOr result Unit (out.new ≡ out.old) }
 {
-    let Some(mut contents) = handle.take(alloc) else {
-        return CLOSED;
-    };
-    let answer = match &mut contents.object {
-        Object::Site(site) => site.put(PutKind::Give, i, out),
-        Object::Plan(_) | Object::World(_) | Object::Builder(_) => OTHER_KIND,
-    };
-    handle.put(contents);
-    answer
+    on_held!(alloc, handle, mut Site(site) => site.put(PutKind::Give, i, out))
 }
 
 /// Asks for the fork of place `i`, and writes the letter. Returns the number of its bytes.
@@ -253,15 +207,7 @@ pub extern "C" fn dine_raw_site_ask(
         handle.old.slot.held handle.new.slot.held }
     ensures unwritten { IsDoneOr result Unit (out.new ≡ out.old) }
 {
-    let Some(mut contents) = handle.take(alloc) else {
-        return CLOSED;
-    };
-    let answer = match &mut contents.object {
-        Object::Site(site) => site.put(PutKind::Ask, i, out),
-        Object::Plan(_) | Object::World(_) | Object::Builder(_) => OTHER_KIND,
-    };
-    handle.put(contents);
-    answer
+    on_held!(alloc, handle, mut Site(site) => site.put(PutKind::Ask, i, out))
 }
 
 /// Says Done at place `i`, and writes the letter. Returns the number of its bytes.
@@ -276,15 +222,7 @@ pub extern "C" fn dine_raw_site_done(
         handle.old.slot.held handle.new.slot.held }
     ensures unwritten { IsDoneOr result Unit (out.new ≡ out.old) }
 {
-    let Some(mut contents) = handle.take(alloc) else {
-        return CLOSED;
-    };
-    let answer = match &mut contents.object {
-        Object::Site(site) => site.put(PutKind::Done, i, out),
-        Object::Plan(_) | Object::World(_) | Object::Builder(_) => OTHER_KIND,
-    };
-    handle.put(contents);
-    answer
+    on_held!(alloc, handle, mut Site(site) => site.put(PutKind::Done, i, out))
 }
 
 /// Closes place `i` in order, and writes the letter. Returns the number of its bytes.
@@ -299,15 +237,7 @@ pub extern "C" fn dine_raw_site_shut(
         handle.old.slot.held handle.new.slot.held }
     ensures unwritten { IsDoneOr result Unit (out.new ≡ out.old) }
 {
-    let Some(mut contents) = handle.take(alloc) else {
-        return CLOSED;
-    };
-    let answer = match &mut contents.object {
-        Object::Site(site) => site.put(PutKind::Close, i, out),
-        Object::Plan(_) | Object::World(_) | Object::Builder(_) => OTHER_KIND,
-    };
-    handle.put(contents);
-    answer
+    on_held!(alloc, handle, mut Site(site) => site.put(PutKind::Close, i, out))
 }
 
 /// Closes place `i` out of order, as after the loss of its link, and writes the letter. Returns the number of its
@@ -323,15 +253,7 @@ pub extern "C" fn dine_raw_site_break(
         handle.old.slot.held handle.new.slot.held }
     ensures unwritten { IsDoneOr result Unit (out.new ≡ out.old) }
 {
-    let Some(mut contents) = handle.take(alloc) else {
-        return CLOSED;
-    };
-    let answer = match &mut contents.object {
-        Object::Site(site) => site.put(PutKind::Break, i, out),
-        Object::Plan(_) | Object::World(_) | Object::Builder(_) => OTHER_KIND,
-    };
-    handle.put(contents);
-    answer
+    on_held!(alloc, handle, mut Site(site) => site.put(PutKind::Break, i, out))
 }
 
 /// Does the event, if it is one of this site and no Take. Writes the letter that it puts, and returns the number of its
@@ -347,31 +269,33 @@ pub extern "C" fn dine_raw_site_act(
         handle.old.slot.held handle.new.slot.held }
     ensures unwritten { IsDoneOr result Unit (out.new ≡ out.old) }
 {
-    let Some(mut contents) = handle.take(alloc) else {
-        return CLOSED;
-    };
-    let answer = match &mut contents.object {
-        Object::Site(site) => site.act(*event, out),
-        Object::Plan(_) | Object::World(_) | Object::Builder(_) => OTHER_KIND,
-    };
-    handle.put(contents);
-    answer
+    on_held!(alloc, handle, mut Site(site) => site.act(*event, out))
 }
 
-/// Takes the letter whose bytes these are. If it is of another run, it is refused before anything else.
+/// Does the first event that the site may do by itself, and writes it. Writes the letter that it puts, and returns the
+/// number of its bytes, or 0 if it puts none. After a Begin the caller does the job, and ends the meal; until then
+/// there is no other turn. If there is no event, it returns that the site waits for a letter, or has finished.
+#[unsafe(no_mangle)]
+pub extern "C" fn dine_raw_site_turn(
+    alloc: Global,
+    handle: &mut Handle,
+    event: &mut DineEvent,
+    out: &mut [u8],
+) -> i64
+    ensures becomes { SiteCall (TurnsOrRefuses event.old event.new out.old out.new) result
+        handle.old.slot.held handle.new.slot.held }
+    ensures unwritten { IsDoneOr result Unit ((event.new ≡ event.old) × (out.new ≡ out.old)) }
+{
+    on_held!(alloc, handle, mut Site(site) => site.turn(event, out))
+}
+
+/// Takes the letter whose bytes these are, and returns the place at which it arrived. One of another run is refused
+/// before anything else.
 #[unsafe(no_mangle)]
 pub extern "C" fn dine_raw_site_take(alloc: Global, handle: &mut Handle, letter: &[u8]) -> i64
     ensures becomes { SiteCall (TakesOrRefuses letter.now) result handle.old.slot.held handle.new.slot.held }
 {
-    let Some(mut contents) = handle.take(alloc) else {
-        return CLOSED;
-    };
-    let answer = match &mut contents.object {
-        Object::Site(site) => site.take(alloc, letter),
-        Object::Plan(_) | Object::World(_) | Object::Builder(_) => OTHER_KIND,
-    };
-    handle.put(contents);
-    answer
+    on_held!(alloc, handle, mut Site(site) => site.take(alloc, letter))
 }
 
 /// Begins a meal.
@@ -379,15 +303,7 @@ pub extern "C" fn dine_raw_site_take(alloc: Global, handle: &mut Handle, letter:
 pub extern "C" fn dine_raw_site_begin(alloc: Global, handle: &mut Handle) -> i64
     ensures becomes { SiteCall BeginsOrRefuses result handle.old.slot.held handle.new.slot.held }
 {
-    let Some(mut contents) = handle.take(alloc) else {
-        return CLOSED;
-    };
-    let answer = match &mut contents.object {
-        Object::Site(site) => site.begin(),
-        Object::Plan(_) | Object::World(_) | Object::Builder(_) => OTHER_KIND,
-    };
-    handle.put(contents);
-    answer
+    on_held!(alloc, handle, mut Site(site) => site.begin())
 }
 
 /// Ends the meal. `failed` says whether its job failed.
@@ -395,15 +311,7 @@ pub extern "C" fn dine_raw_site_begin(alloc: Global, handle: &mut Handle) -> i64
 pub extern "C" fn dine_raw_site_end(alloc: Global, handle: &mut Handle, failed: bool) -> i64
     ensures becomes { SiteCall (EndsOrRefuses failed) result handle.old.slot.held handle.new.slot.held }
 {
-    let Some(mut contents) = handle.take(alloc) else {
-        return CLOSED;
-    };
-    let answer = match &mut contents.object {
-        Object::Site(site) => site.end(failed),
-        Object::Plan(_) | Object::World(_) | Object::Builder(_) => OTHER_KIND,
-    };
-    handle.put(contents);
-    answer
+    on_held!(alloc, handle, mut Site(site) => site.end(failed))
 }
 
 /// Writes the periods of the log of the fork in hand at place `i`, three numbers for each, and returns how many
@@ -421,15 +329,7 @@ pub extern "C" fn dine_raw_site_fork(
         (λ fork. ArePeriods fork out.old out.new result))) }
     ensures unwritten { IsDoneOr result Unit (out.new ≡ out.old) }
 {
-    let Some(contents) = handle.take(alloc) else {
-        return CLOSED;
-    };
-    let answer = match &contents.object {
-        Object::Site(site) => site.periods(i, out),
-        Object::Plan(_) | Object::World(_) | Object::Builder(_) => OTHER_KIND,
-    };
-    handle.put(contents);
-    answer
+    on_held!(alloc, handle, Site(site) => site.periods(i, out))
 }
 
 /// Returns the value of the fork in hand at place `i`.
@@ -440,13 +340,5 @@ pub extern "C" fn dine_raw_site_value(alloc: Global, handle: &mut Handle, i: u32
         (λ own. MatchOption (hand_of (place_at own.core i).fork) (result ≡ no_such)
         (λ fork. Reports result fork.value))) }
 {
-    let Some(contents) = handle.take(alloc) else {
-        return CLOSED;
-    };
-    let answer = match &contents.object {
-        Object::Site(site) => site.value(i),
-        Object::Plan(_) | Object::World(_) | Object::Builder(_) => OTHER_KIND,
-    };
-    handle.put(contents);
-    answer
+    on_held!(alloc, handle, Site(site) => site.value(i))
 }

@@ -36,6 +36,12 @@ pub(crate) const OPEN_ALREADY: i64 = -8;
 /// No link of the site is of this edge.
 pub(crate) const OTHER_EDGE: i64 = -14;
 
+/// The site can do nothing before a letter arrives.
+pub(crate) const WAITS: i64 = -16;
+
+/// The site has done all, and put and taken all letters.
+pub(crate) const FINISHED: i64 = -17;
+
 /// -11 to -13, or -15: the bytes are no letter that may arrive. -15 is that of a letter of another run.
 pub(crate) fn wire_status(fault: WireFault) -> i64
     ensures refused { IsRefused result }

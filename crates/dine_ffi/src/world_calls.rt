@@ -13,6 +13,7 @@ ghost use Rattle.dine_ffi.specs.Written.{ArePeriods};
 use crate::contents::{Contents, Object};
 use crate::event::DineEvent;
 use crate::handle::Handle;
+use crate::on_held::on_held;
 use crate::own_world::OwnWorld;
 use crate::plan_calls::open;
 use crate::status::{CLOSED, MEMORY, OPEN_ALREADY, OTHER_KIND};
@@ -63,15 +64,7 @@ pub extern "C" fn dine_raw_world_bound(alloc: Global, handle: &mut Handle) -> i6
     ensures answer { OfHeld handle.old.slot.held result (λ object. OfWorld object result
         (λ w. ForEachWorld w (λ plan world. Reports result (bound_of plan)))) }
 {
-    let Some(contents) = handle.take(alloc) else {
-        return CLOSED;
-    };
-    let answer = match &contents.object {
-        Object::World(world) => world.bound(),
-        Object::Plan(_) | Object::Site(_) | Object::Builder(_) => OTHER_KIND,
-    };
-    handle.put(contents);
-    answer
+    on_held!(alloc, handle, World(world) => world.bound())
 }
 
 /// Returns the number of enabled events.
@@ -81,15 +74,7 @@ pub extern "C" fn dine_raw_world_count(alloc: Global, handle: &mut Handle) -> i6
     ensures answer { OfHeld handle.old.slot.held result (λ object. OfWorld object result
         (λ w. ForEachWorld w (λ plan world. result ≡ pos (length (enabled_events plan world))))) }
 {
-    let Some(contents) = handle.take(alloc) else {
-        return CLOSED;
-    };
-    let answer = match &contents.object {
-        Object::World(world) => world.count(),
-        Object::Plan(_) | Object::Site(_) | Object::Builder(_) => OTHER_KIND,
-    };
-    handle.put(contents);
-    answer
+    on_held!(alloc, handle, World(world) => world.count())
 }
 
 /// Writes the n-th enabled event, from 0.
@@ -107,15 +92,7 @@ pub extern "C" fn dine_raw_world_enabled(
         × (out.new ≡ seen_event event.site event.kind))))) }
     ensures unwritten { IsDoneOr result Unit (out.new ≡ out.old) }
 {
-    let Some(contents) = handle.take(alloc) else {
-        return CLOSED;
-    };
-    let answer = match &contents.object {
-        Object::World(world) => world.enabled(n, out),
-        Object::Plan(_) | Object::Site(_) | Object::Builder(_) => OTHER_KIND,
-    };
-    handle.put(contents);
-    answer
+    on_held!(alloc, handle, World(world) => world.enabled(n, out))
 }
 
 /// Does the event.
@@ -126,15 +103,7 @@ pub extern "C" fn dine_raw_world_step(alloc: Global, handle: &mut Handle, event:
         (λ kind. StepsWorldOrRefuses (record { site = event.now.site; kind = kind }) result old new)) result
         handle.old.slot.held handle.new.slot.held }
 {
-    let Some(mut contents) = handle.take(alloc) else {
-        return CLOSED;
-    };
-    let answer = match &mut contents.object {
-        Object::World(world) => world.step(*event),
-        Object::Plan(_) | Object::Site(_) | Object::Builder(_) => OTHER_KIND,
-    };
-    handle.put(contents);
-    answer
+    on_held!(alloc, handle, mut World(world) => world.step(*event))
 }
 
 /// Does the enabled event that each choice names by its number. Returns the number of events.
@@ -144,15 +113,7 @@ pub extern "C" fn dine_raw_world_replay(alloc: Global, handle: &mut Handle, choi
         × ForEachWorld old (λ plan world. RunsTo plan (replay plan (from_here world) choices.now) events new)) result
         handle.old.slot.held handle.new.slot.held }
 {
-    let Some(mut contents) = handle.take(alloc) else {
-        return CLOSED;
-    };
-    let answer = match &mut contents.object {
-        Object::World(world) => world.replay(choices),
-        Object::Plan(_) | Object::Site(_) | Object::Builder(_) => OTHER_KIND,
-    };
-    handle.put(contents);
-    answer
+    on_held!(alloc, handle, mut World(world) => world.replay(choices))
 }
 
 /// Does the first enabled event until none is enabled. Returns the number of events.
@@ -163,15 +124,7 @@ pub extern "C" fn dine_raw_world_finish(alloc: Global, handle: &mut Handle) -> i
         (λ plan world. RunsTo plan (finish_within (bound_of plan) plan (from_here world)) events new))) result
         handle.old.slot.held handle.new.slot.held }
 {
-    let Some(mut contents) = handle.take(alloc) else {
-        return CLOSED;
-    };
-    let answer = match &mut contents.object {
-        Object::World(world) => world.finish(),
-        Object::Plan(_) | Object::Site(_) | Object::Builder(_) => OTHER_KIND,
-    };
-    handle.put(contents);
-    answer
+    on_held!(alloc, handle, mut World(world) => world.finish())
 }
 
 /// Returns 0 if the site thinks, 1 if it is hungry, 2 if it eats.
@@ -182,15 +135,7 @@ pub extern "C" fn dine_raw_world_phase(alloc: Global, handle: &mut Handle, site:
         (λ w. ForEachWorld w (λ plan world. MatchOption (slice_get world site) (result ≡ no_such)
         (λ state. result ≡ pos (number_of state.phase))))) }
 {
-    let Some(contents) = handle.take(alloc) else {
-        return CLOSED;
-    };
-    let answer = match &contents.object {
-        Object::World(world) => world.phase(site),
-        Object::Plan(_) | Object::Site(_) | Object::Builder(_) => OTHER_KIND,
-    };
-    handle.put(contents);
-    answer
+    on_held!(alloc, handle, World(world) => world.phase(site))
 }
 
 /// Returns the number of meals that the site began.
@@ -201,15 +146,7 @@ pub extern "C" fn dine_raw_world_ate(alloc: Global, handle: &mut Handle, site: u
         (λ w. ForEachWorld w (λ plan world. MatchOption (slice_get world site) (result ≡ no_such)
         (λ state. result ≡ pos state.ate)))) }
 {
-    let Some(contents) = handle.take(alloc) else {
-        return CLOSED;
-    };
-    let answer = match &contents.object {
-        Object::World(world) => world.ate(site),
-        Object::Plan(_) | Object::Site(_) | Object::Builder(_) => OTHER_KIND,
-    };
-    handle.put(contents);
-    answer
+    on_held!(alloc, handle, World(world) => world.ate(site))
 }
 
 /// Writes the periods of the log of the edge's fork, three numbers for each, and returns how many periods there are.
@@ -226,15 +163,7 @@ pub extern "C" fn dine_raw_world_fork(
         ((result ≡ no_such) × (out.new ≡ out.old)) (λ fork. ArePeriods fork out.old out.new result)))) }
     ensures unwritten { IsDoneOr result Unit (out.new ≡ out.old) }
 {
-    let Some(contents) = handle.take(alloc) else {
-        return CLOSED;
-    };
-    let answer = match &contents.object {
-        Object::World(world) => world.periods(edge, out),
-        Object::Plan(_) | Object::Site(_) | Object::Builder(_) => OTHER_KIND,
-    };
-    handle.put(contents);
-    answer
+    on_held!(alloc, handle, World(world) => world.periods(edge, out))
 }
 
 /// Returns the value of the edge's fork.
@@ -245,13 +174,5 @@ pub extern "C" fn dine_raw_world_value(alloc: Global, handle: &mut Handle, edge:
         (λ w. ForEachWorld w (λ plan world. MatchOption (slice_get (forks_seen plan world) edge)
         (result ≡ no_such) (λ fork. Reports result fork.value)))) }
 {
-    let Some(contents) = handle.take(alloc) else {
-        return CLOSED;
-    };
-    let answer = match &contents.object {
-        Object::World(world) => world.value(edge),
-        Object::Plan(_) | Object::Site(_) | Object::Builder(_) => OTHER_KIND,
-    };
-    handle.put(contents);
-    answer
+    on_held!(alloc, handle, World(world) => world.value(edge))
 }

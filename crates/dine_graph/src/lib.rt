@@ -10,6 +10,6 @@ mod places;
 mod plans;
 
 pub use ids::{EdgeId, EdgeIds, SiteId, SiteIds};
-pub use job_name::JobName;
-pub use limits::{MAX_EDGES, MAX_NAME, MAX_SITES, MAX_TURNS};
-pub use plans::{Job, Plan, Site};
+pub use job_name::{JobName, PlanJobName};
+pub use limits::{MAX_EDGES, MAX_NAME, MAX_SITES, MAX_TEXT_JOBS, MAX_TURNS};
+pub use plans::{Job, Plan, PlanJob, Site};

@@ -2,9 +2,10 @@
 ghost use Rattle.std.specs.Prelude.{◌≡◌, ℕ, ◌<◌, ◌≤◌, map, length, Some, All, IfOk, IsTrue, slice_get};
 ghost use Rattle.dine_graph.specs.Plan.{IsPlan, site_count, edge_count, job_count, job_of, name_of};
 ghost use Rattle.dine_graph.specs.Plan.{ends_of, other_of, edges_of, is_end, resigns, value_of};
+ghost use Rattle.dine_graph.specs.Job.{plain_job, seen_job, seen_plan_job};
 ghost use Rattle.std.specs.List.Sorted.{IsStrictlyIncreasing};
 
-use crate::job_name::JobName;
+use crate::job_name::{JobName, PlanJobName};
 use crate::places::{lists_at, places_in};
 use dine_token::Act;
 use std::alloc::{AllocError, Global};
@@ -23,20 +24,36 @@ pub struct Job {
     pub act: Act,
 }
 
-/// A site of a plan, as [`Plan::new`] takes it.
+/// A job of a site, as [`Plan::job`] returns it.
+#[derive(Clone, Copy, Debug)]
+pub struct PlanJob<'p> {
+    /// The name of the job. Two jobs of a site may have the same.
+    pub name: PlanJobName<'p>,
+    /// The number of turns that the job takes, at most 1,000,000.
+    pub turns: u32,
+    /// Whether the job fails.
+    pub fails: bool,
+    /// What its meal does to the value of each edge of the site.
+    pub act: Act,
+}
+
+/// A site of a plan, as [`Plan::new`] takes it. Its jobs are those of a list, and after these a number of plain jobs,
+/// which are not stored. A plain job has its number as its name, takes no turns, does not fail, and adds 0.
 #[derive(Debug, Drop)]
 pub struct Site {
     /// The name of the site.
     pub name: String,
-    /// Its jobs, in order.
+    /// Its first jobs, in order.
     pub jobs: Vec<Job>,
+    /// The number of plain jobs after these.
+    pub plain: u32,
     /// Whether it drops the jobs that it has left after one failed.
     pub resigns: bool,
 }
 
-/// A plan: 1 to 64 sites in the order of the plan text, each with a name of its own and at most 1,000 jobs, and at
-/// most 512 edges in the order of the text, each between two sites that no other edge joins. Sites and edges are
-/// numbered from 0, and the jobs of a site from 1.
+/// A plan: 1 to 64 sites in the order of the plan text, each with a name of its own and at most 4,294,967,295 jobs, and
+/// at most 512 edges in the order of the text, each between two sites that no other edge joins. Sites and edges are
+/// numbered from 0, and the jobs of a site from 1. A plan that was read from a text has at most 1,000 jobs a site.
 #[derive(Debug, Drop)]
 pub struct Plan {
     version: u32,
@@ -61,7 +78,6 @@ impl Model for Plan {
 }
 
 impl Plan {
-    ghost use Rattle.dine_graph.specs.Job.{seen_job};
     ghost use Rattle.dine_graph.specs.Site.{plan_of_lists};
 
     /// Makes the plan of this version, these sites, these ends of edges and the values of the edges. The caller must
@@ -126,24 +142,29 @@ impl Plan {
         self.sites[site as usize].name.as_str()
     }
 
-    /// Returns the number of jobs of a site, 0 to 1,000.
+    /// Returns the number of jobs of a site, 0 to 4,294,967,295.
     pub fn jobs(&self, site: u32) -> u32
         requires { site < site_count self.now }
         ensures count { result ≡ job_count self.now site }
         ensures plan { IsPlan self.now }
     {
-        self.sites[site as usize].jobs.len() as u32
+        let owner = &self.sites[site as usize];
+        owner.jobs.len() as u32 + owner.plain
     }
 
     /// Returns job `k` of a site, from 1 to `jobs`.
-    pub fn job(&self, site: u32, k: u32) -> &Job
+    pub fn job(&self, site: u32, k: u32) -> PlanJob<'_>
         requires site_in { site < site_count self.now }
         requires from_one { 1 ≤ k }
         requires job_in { k ≤ job_count self.now site }
-        ensures job { seen_job result.now ≡ job_of self.now site k }
+        ensures job { seen_plan_job result ≡ job_of self.now site k }
         ensures plan { IsPlan self.now }
     {
-        &self.sites[site as usize].jobs[(k - 1) as usize]
+        let owner = &self.sites[site as usize];
+        match owner.jobs.get((k - 1) as usize) {
+            Some(job) => listed_job(job),
+            None => plain_job(k),
+        }
     }
 
     /// Returns whether a site, whose number is below `sites`, drops the jobs that it has left after one failed.
@@ -209,5 +230,33 @@ impl Plan {
     {
         let (lo, hi) = self.ends(edge);
         if lo == site { hi } else { lo }
+    }
+}
+
+// A job of the list of a site.
+fn listed_job(job: &Job) -> PlanJob<'_>
+    ensures { seen_plan_job result ≡ seen_job job.now }
+{
+    let name = match &job.name {
+        JobName::Own(text) => PlanJobName::Own(text.as_str()),
+        JobName::Number(number) => PlanJobName::Number(*number),
+    };
+    PlanJob {
+        name,
+        turns: job.turns,
+        fails: job.fails,
+        act: job.act,
+    }
+}
+
+// Plain job `k` of a site, which no list has.
+fn plain_job<'p>(k: u32) -> PlanJob<'p>
+    ensures { seen_plan_job result ≡ plain_job k }
+{
+    PlanJob {
+        name: PlanJobName::Number(k),
+        turns: 0,
+        fails: false,
+        act: Act::Add(0),
     }
 }

@@ -1,9 +1,8 @@
 -- The cause of a run of jobs, by the cause of its run.
-use Rattle.std.proofs.Common.{◌≡◌, ◌<◌, ◌==◌, ℕ, Bool, true, false, length, refl, sym, ap, ◌∙◌, arith, if◌then◌else◌}
+use Rattle.std.proofs.Common.{◌≡◌, ◌<◌, ℕ, refl, ap, arith}
 use Rattle.std.specs.Prelude.{vec_len}
 use Rattle.std.specs.Global.{Vec}
-use Rattle.std.proofs.lemmas.Bool.{eqb-false}
-use Rattle.dine_graph.specs.Plan.{SeenPlan, edge_count, edges_of, site_count}
+use Rattle.dine_graph.specs.Plan.{SeenPlan, edge_count, site_count}
 use Rattle.dine_site_thread.specs.declared.diner.Diner as diners
 use Rattle.dine_site_thread.specs.declared.manner.Manner.{Manner}
 use Rattle.dine_site_thread.specs.declared.site_end.SiteFault.{SiteFault}
@@ -16,16 +15,11 @@ use Rattle.dine_threads.specs.declared.gathered.Gathered.{Gathered}
 use Rattle.dine_threads.specs.declared.gathered.RunFault.{RunFault}
 use Rattle.dine_threads.specs.declared.gathered.RunFault.TheVariants as run
 use Rattle.dine_jobs.specs.JobFaults.{AreAsMany, HasCause, HasJobsBack, cause_of_run}
-use Rattle.dine_jobs.specs.declared.done.JobsCause.TheVariants.{Run, Bell}
 use Rattle.dine_jobs.specs.declared.done.JobsFault.{JobsFault}
 
 abbrev site_named : RunCause → ℕ
 site_named (run_cause.Broken site fault) = site
 site_named cause = 0
-
-abbrev link_named : RunCause → ℕ
-link_named (run_cause.Broken site (site_fault.Lost link)) = link
-link_named cause = 0
 
 -- a site that a fault of `run` names as broken is one of the plan
 pub in_plan : {D : Type 0} (eater : diners.Ghosts D) (manner : Manner) (plan : SeenPlan) (given : Vec D) (returned : RunFault D) → FaultIs eater manner plan given returned
@@ -44,18 +38,12 @@ jobs_back_of eater manner plan given jobs (run.Thread at) is taken = tt
 jobs_back_of eater manner plan given jobs (run.Broken at joined) is taken = omega (arith, taken at joined refl, joined.sites.ok.0, is.2.count)
 
 module _ {T J : Type 0} (plan : SeenPlan) (values : Vec T) (jobs : Vec J) (fault : JobsFault T J) (many : AreAsMany plan values jobs) (back : vec_len fault.values ≡ edge_count plan) where
-  -- by the test whether the number is that of a link of the site
-  tested : (site link : ℕ) (is : Bool) → (link == length (edges_of plan site)) ≡ is → site < site_count plan → vec_len fault.jobs ≡ site_count plan
-      → HasCause plan values jobs (if is then Bell site else Run (run_cause.Broken site (site_fault.Lost link))) fault
-  tested site link true e within jobs_back = (many, back, within, jobs_back)
-  tested site link false e within jobs_back =
-      (many, back, λ other same. eqb-false link (length (edges_of plan site)) e (ap link_named same ∙ ap (λ (s : ℕ). length (edges_of plan s)) (sym (ap site_named same))), jobs_back)
-
-  pub cause_holds : (cause : RunCause) → ((site : ℕ) (fault : SiteFault) → cause ≡ run_cause.Broken site fault → site < site_count plan) → HasJobsBack plan cause fault.jobs → HasCause plan values jobs (cause_of_run plan cause) fault
-  cause_holds run_cause.DinersDiffer within jobs_back = (many, back, λ site same. absurd cc, jobs_back)
-  cause_holds run_cause.Memory within jobs_back = (many, back, λ site same. absurd cc, jobs_back)
-  cause_holds (run_cause.Thread at) within jobs_back = (many, back, λ site same. absurd cc, jobs_back)
-  cause_holds (run_cause.Broken at (site_fault.Breach link breach)) within jobs_back = (many, back, λ site same. absurd cc, jobs_back)
-  cause_holds (run_cause.Broken at (site_fault.Lost link)) within jobs_back = tested at link (link == length (edges_of plan at)) refl (within at (site_fault.Lost link) refl) jobs_back
-  cause_holds (run_cause.Broken at site_fault.NotStarted) within jobs_back = (many, back, λ site same. absurd cc, jobs_back)
-  cause_holds (run_cause.Broken at site_fault.Memory) within jobs_back = (many, back, λ site same. absurd cc, jobs_back)
+  pub cause_holds : (cause : RunCause) → ((site : ℕ) (fault : SiteFault) → cause ≡ run_cause.Broken site fault → site < site_count plan) → HasJobsBack plan cause fault.jobs → HasCause plan values jobs (cause_of_run cause) fault
+  cause_holds run_cause.DinersDiffer within jobs_back = (many, back, λ site degree same. absurd cc, jobs_back)
+  cause_holds run_cause.Memory within jobs_back = (many, back, λ site degree same. absurd cc, jobs_back)
+  cause_holds (run_cause.Thread at) within jobs_back = (many, back, λ site degree same. absurd cc, jobs_back)
+  cause_holds (run_cause.Broken at (site_fault.Breach link breach)) within jobs_back = (many, back, λ site degree same. absurd cc, jobs_back)
+  cause_holds (run_cause.Broken at (site_fault.Lost link)) within jobs_back = (many, back, λ site degree same. absurd cc, jobs_back)
+  cause_holds (run_cause.Broken at (site_fault.LostBell degree)) within jobs_back = (many, back, within at (site_fault.LostBell degree) refl, jobs_back)
+  cause_holds (run_cause.Broken at site_fault.NotStarted) within jobs_back = (many, back, λ site degree same. absurd cc, jobs_back)
+  cause_holds (run_cause.Broken at site_fault.Memory) within jobs_back = (many, back, λ site degree same. absurd cc, jobs_back)

@@ -6,3 +6,4 @@ pub mod JobSites
 pub mod Places
 pub mod Queues
 pub mod Rounds
+pub mod Workers

@@ -1,7 +1,8 @@
 -- What a queue does: with a task that it takes, and with one that it does not. The words for why, and for why a ticket
 -- has no output.
-use Rattle.std.specs.Prelude.{◌≡◌, ◌≤◌, ℕ, suc, ◌+◌, ◌||◌, nat_lt, not, Bool, true, false, List, codes, length}
+use Rattle.std.specs.Prelude.{◌≡◌, ◌≤◌, ◌⊎◌, ℕ, suc, ◌+◌, ◌-◌, ◌^◌, ◌||◌, nat_lt, not, Bool, true, false, List, codes, length}
 use Rattle.dine_jobs.specs.declared.queue.Queue.{Queue}
+use Rattle.dine_jobs.specs.declared.queue.Served.{Served}
 use Rattle.dine_jobs.specs.declared.queue.SubmitError.{SubmitError}
 use Rattle.dine_jobs.specs.declared.queue.SubmitError.TheVariants.{Closed, Full, NoSite, Memory}
 use Rattle.dine_jobs.specs.declared.ticket.TicketError.{TicketError}
@@ -59,6 +60,10 @@ pub record IsTaken (old new : SeenQueue) : Type 0 where
   pub over : new.over ≡ old.over
   pub waits : new.waits ≡ old.waits
 
+-- how many tasks of a site were done
+abbrev pub done_of : Served → ℕ
+done_of served = served.done
+
 -- the task that a refusal hands back
 abbrev pub task_in : {K : Type 0} → SubmitError K → K
 task_in (Closed task) = task
@@ -67,12 +72,13 @@ task_in (NoSite task) = task
 task_in (Memory task) = task
 
 -- The refusal is one that a queue may give: it is Closed only if the queue is closed, and Full only if as many tasks
--- wait as it has capacity for. It never says that there is no such site.
-abbrev pub MayRefuse : {K : Type 0} → SubmitError K → Bool → List K → ℕ → Type 0
-MayRefuse (Closed task) closed tasks capacity = closed ≡ true
-MayRefuse (Full task) closed tasks capacity = capacity ≤ length tasks
-MayRefuse (NoSite task) closed tasks capacity = ⊥
-MayRefuse (Memory task) closed tasks capacity = Unit {0}
+-- wait as it has capacity for, or if it has accepted as many as a number of 64 bits can be. It never says that there is
+-- no such site.
+abbrev pub MayRefuse : {K : Type 0} → SubmitError K → Bool → ℕ → ℕ → ℕ → Type 0
+MayRefuse (Closed task) closed waiting capacity accepted = closed ≡ true
+MayRefuse (Full task) closed waiting capacity accepted = (capacity ≤ waiting) ⊎ (accepted ≡ 2 ^ 64 - 1)
+MayRefuse (NoSite task) closed waiting capacity accepted = ⊥
+MayRefuse (Memory task) closed waiting capacity accepted = Unit {0}
 
 -- the words for why a task was not taken
 abbrev pub submit_error_words : {K : Type 0} → SubmitError K → List ℕ

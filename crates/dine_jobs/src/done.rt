@@ -147,10 +147,13 @@ pub enum JobsCause {
     /// The run failed. The cause is not that a bell refused, which is `Bell`.
     Run(RunCause),
     /// A bell refused at this site: a bell of a neighbour refused a ring, or its own bell a wait. It is the lowest site
-    /// that ended with a fault. The cause of the run has this as `Lost`, with the number of the site's edges.
+    /// that ended with a fault. The cause of the run has this as `LostBell`.
     Bell(u32),
     /// The values did not come back, each for its edge: a thread kept them. No run does that, though no clause says so.
     Kept,
+    /// An open run had not the executor to itself: another run took tasks of it, or it was opened for a plan with fewer
+    /// sites.
+    Executor,
 }
 
 /// Why there is nothing left of a run of jobs, and what is returned with it.
@@ -205,6 +208,7 @@ impl fmt::Display for JobsCause {
             JobsCause::Run(cause) => write!(f, "{cause}"),
             JobsCause::Bell(site) => write!(f, "run broken at site {site}: Lost on a bell"),
             JobsCause::Kept => f.write_str("a thread kept the values"),
+            JobsCause::Executor => f.write_str("the executor is not of this run alone"),
         }
     }
 }

@@ -172,7 +172,7 @@ where
     let (cause, jobs) = match ran {
         Ok(gathered) => return finish(gathered, room, values, spare, back),
         Err(fault) => {
-            let cause = cause_of(plan, RunCause::from(&fault));
+            let cause = cause_of(RunCause::from(&fault));
             (cause, jobs_of(fault, back))
         }
     };
@@ -180,18 +180,11 @@ where
 }
 
 // Returns why a run of jobs failed, by the cause of its run.
-fn cause_of(plan: &Plan, cause: RunCause) -> JobsCause
-    requires { (site : _) (fault : _) → cause ≡ RunCause.Broken site fault → site < site_count plan.now }
-    ensures { result ≡ cause_of_run plan.now cause }
+fn cause_of(cause: RunCause) -> JobsCause
+    ensures { result ≡ cause_of_run cause }
 {
     match cause {
-        RunCause::Broken(site, SiteFault::Lost(link)) => {
-            if link as usize == plan.edges_of(site).len() {
-                JobsCause::Bell(site)
-            } else {
-                JobsCause::Run(cause)
-            }
-        }
+        RunCause::Broken(site, SiteFault::LostBell { .. }) => JobsCause::Bell(site),
         _ => JobsCause::Run(cause),
     }
 }

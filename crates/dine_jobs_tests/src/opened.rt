@@ -65,6 +65,14 @@ fn counts(done: &OpenDone<u64>) -> (u64, u64, u64) {
     (sum, tasks, done.epochs)
 }
 
+// How many tasks of a site were accepted, done and handed back.
+fn served_at<R: Abort>(rt: &R, done: &OpenDone<u64>, site: usize) -> (u64, u64, u64) {
+    let Some(served) = done.served.get(site) else {
+        panic!(rt; "no site");
+    };
+    (served.accepted(), served.done(), served.handed_back())
+}
+
 fn opens<R: Threads + Wait + Abort + Clock + Copy + Drop + Send + 'static>(rt: R, alloc: Global) {
     let plan = all_resigning(&rt, alloc, SITES, 10);
     let executor = Executor::open(alloc, &plan).expect(&rt, "memory");
@@ -144,11 +152,18 @@ fn stops<R: Threads + Wait + Abort + Clock + Copy + Drop + Send + 'static>(rt: R
     holds(&rt, matches!(gone, Err(TicketError::Gone)));
     let done = ran_open(rt, alloc, &plan, &executor);
     same(&rt, &counts(&done), &(0, 0, 1));
+    same(&rt, &served_at(&rt, &done, 1), &(1, 0, 1));
 }
 
-// Site 0 has ten tasks, of which an epoch does two, and each other site has one. Each epoch is a run of its own: its
-// journals have one order, and its calls that went well are its tasks.
-fn goes_in_epochs<R: Threads + Wait + Abort + Copy + Drop + Send + 'static>(rt: R, alloc: Global) {
+// Site 0 has ten tasks and two meals in an epoch, and each other site has one task. Each epoch is a run of its own: its
+// journals have one order, and its workers did its tasks, in as many calls as went well.
+fn goes_in_epochs<R: Threads + Wait + Abort + Copy + Drop + Send + 'static>(
+    rt: R,
+    alloc: Global,
+    patience: u32,
+    epochs: u64,
+    meals: u64,
+) {
     let plan = all_resigning(&rt, alloc, SITES, 2);
     let executor = Executor::open(alloc, &plan).expect(&rt, "memory");
     executes_each(&rt, &executor);
@@ -158,12 +173,13 @@ fn goes_in_epochs<R: Threads + Wait + Abort + Copy + Drop + Send + 'static>(rt: 
     }
     executor.close(&rt);
     let values = Vec::from_elem(alloc, 0u64, plan.edges() as usize).expect(&rt, "memory");
-    let (mut ordered, mut well) = (0u32, 0u64);
-    let done = run_open_with(&rt, alloc, &plan, values, &executor, 64, |epoch| {
+    let (mut ordered, mut tasks, mut well) = (0u64, 0u64, 0u64);
+    let done = run_open_with(&rt, alloc, &plan, values, &executor, patience, |epoch| {
         if order(alloc, &plan, epoch.sites.as_slice()).is_ok() {
             ordered = ordered.saturating_add(1);
         }
         for site in epoch.sites.iter() {
+            tasks = tasks.saturating_add(site.job.tasks());
             for call in site.calls() {
                 well = well.saturating_add(u64::from(call.ok));
             }
@@ -172,9 +188,10 @@ fn goes_in_epochs<R: Threads + Wait + Abort + Copy + Drop + Send + 'static>(rt: 
     let Ok(done) = done else {
         panic!(&rt; "the run failed");
     };
-    same(&rt, &counts(&done), &(15, 15, 5));
+    same(&rt, &counts(&done), &(15, 15, epochs));
     same(&rt, &done.tasks.as_slice(), &[10, 1, 1, 1, 1, 1].as_slice());
-    same(&rt, &(ordered, well), &(5, 15));
+    same(&rt, &served_at(&rt, &done, 0), &(10, 10, 0));
+    same(&rt, &(ordered, tasks, well), &(epochs, 15, meals));
 }
 
 // Tasks of a site are done in the order of their submission, also over many epochs and while the run goes on.
@@ -195,7 +212,10 @@ fn answers_over_epochs<R: Threads + Wait + Abort + Copy + Drop + Send + 'static>
         theirs.close(&rt);
         inorder
     });
-    let done = ran_open(rt, alloc, &plan, &executor);
+    let values = Vec::from_elem(alloc, 0u64, plan.edges() as usize).expect(&rt, "memory");
+    let Ok(done) = run_open_with(&rt, alloc, &plan, values, &executor, 1, |_| {}) else {
+        panic!(&rt; "the run failed");
+    };
     same(&rt, &counts(&done), &(20, 20, 20));
     if let Ok(clerk) = clerk {
         same(&rt, &clerk.join(&rt), &20);
@@ -243,7 +263,13 @@ fn a_stopped_executor_hands_back_what_has_not_begun(rt: HostRuntime) -> Result<(
 
 #[test]
 fn open_runs_go_in_epochs(rt: HostRuntime) -> Result<(), Fail> {
-    goes_in_epochs(rt, rt.alloc());
+    goes_in_epochs(rt, rt.alloc(), 1, 5, 15);
+    Ok(())
+}
+
+#[test]
+fn a_meal_has_as_many_tasks_as_the_patience(rt: HostRuntime) -> Result<(), Fail> {
+    goes_in_epochs(rt, rt.alloc(), 4, 2, 8);
     Ok(())
 }
 

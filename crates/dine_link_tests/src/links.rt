@@ -122,7 +122,7 @@ fn came(rt: &impl Abort, letter: &Letter, sending: Sending, edge: u32) {
         Letter::Request(token) => same(rt, &token.edge(), &edge),
         Letter::Fork(fork) => {
             let report = (fork.edge(), fork.at(), fork.is_dirty(), fork.len());
-            same(rt, &report, &(edge, 1, false, 2 - edge % 2));
+            same(rt, &report, &(edge, 1, false, u64::from(2 - edge % 2)));
         }
         _ => {}
     }

@@ -11,7 +11,8 @@ use Rattle.dine_rules.specs.declared.events.EventKind.{EventKind}
 use Rattle.dine_rules.specs.Bound.{bound_of}
 use Rattle.dine_rules.specs.Journals.{IsFrontOf, IsLowestFirst, OrdersGrow, can_follow, is_ready, journal_of, next_of, part_of}
 use Rattle.dine_rules.specs.Local.{neighbour_at}
-use Rattle.dine_rules.specs.Steps.{IsPlaceWithin, Puts, shape_of}
+use Rattle.dine_rules.specs.declared.events.Shape.TheVariants.{Puts}
+use Rattle.dine_rules.specs.Steps.{IsPlaceWithin, shape_of}
 use Rattle.dine_rules.specs.World.{Reaches, WorldState, after_events, is_enabled, start, world_after}
 use Rattle.dine_world.specs.Worlds.{IsWorldOf, SeenWorld, WorldStep}
 use Rattle.dine_order.specs.private.Searching.{AreCounts, IsFound, IsSearched, IsSearching, kind_at, receiver_by, receiver_of}

@@ -26,7 +26,7 @@ pub enum OrderFault {
     CountDiffers,
     /// No site's next event is enabled, and there is no order. `site` is the lowest site with events left, and `placed`
     /// is the number of its events that were placed.
-    Stuck { site: u32, placed: u32 },
+    Stuck { site: u32, placed: u64 },
     /// All events were placed, but the world is not complete, and there is no order.
     NotClosed,
     /// An allocation failed.
@@ -91,7 +91,7 @@ pub fn order<J: AsSlice<EventKind>>(
     if journals.len() != plan.sites() as usize {
         return Err(OrderFault::CountDiffers);
     }
-    let mut counts = vec![in alloc; 0u32; plan.sites() as usize]?;
+    let mut counts = vec![in alloc; 0u64; plan.sites() as usize]?;
     search(alloc, plan, journals, counts.as_mut_slice())
 }
 
@@ -100,7 +100,7 @@ fn search<J: AsSlice<EventKind>>(
     alloc: Global,
     plan: &Plan,
     journals: &[J],
-    counts: &mut [u32],
+    counts: &mut [u64],
 ) -> Result<Vec<Event>, OrderFault>
     requires journals { length journals.now ≡ site_count plan.now }
     requires counts { counts.old ≡ replicate (site_count plan.now) 0 }
@@ -131,7 +131,7 @@ fn search<J: AsSlice<EventKind>>(
 }
 
 // Returns the lowest site with events left, given the number of events of each site that were placed.
-fn first_left<J: AsSlice<EventKind>>(plan: &Plan, journals: &[J], counts: &[u32]) -> Option<u32>
+fn first_left<J: AsSlice<EventKind>>(plan: &Plan, journals: &[J], counts: &[u64]) -> Option<u32>
     requires journals { length journals.now ≡ site_count plan.now }
     requires counts { length counts.now ≡ site_count plan.now }
     ensures { FirstLeft (site_count plan.now) (map J.items journals.now) counts.now result }

@@ -9,7 +9,7 @@ use Rattle.dine_graph.specs.Plan.{SeenJob, SeenSite}
 use Rattle.dine_draft.specs.Draft.{SeenDraft, names_of}
 use Rattle.dine_draft.specs.declared.drafts.DraftEdge.{DraftEdge}
 use Rattle.dine_builder.specs.Draft.{Draft}
-use Rattle.dine_builder.specs.DraftPlan.{draft_of}
+use Rattle.dine_builder.specs.DraftPlan.{text_of}
 
 -- a whole number as a text writes it; one above the greatest that TOML has is written as that one, which each limit
 -- refuses too
@@ -58,6 +58,6 @@ document_of d =
     (member (codes "site") (array (items_of (map site_table d.sites)))
     (member (codes "version") (integer (pos 2)) no_members))
 
--- the text says the same as a builder's draft: it reads as the document of the draft
+-- the text says the same as a builder's draft: it reads as the document of what a text can say of the draft
 abbrev pub Says : List ℕ → Draft → Type 0
-Says text d = parse_document text ≡ Some (document_of (draft_of d))
+Says text d = parse_document text ≡ Some (document_of (text_of d))

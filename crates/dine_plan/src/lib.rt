@@ -6,6 +6,6 @@ pub mod laws;
 mod texts;
 
 pub use dine_builder::{Explained, PlanBuilder};
-pub use dine_graph::{EdgeId, EdgeIds, Job, JobName, Plan, SiteId, SiteIds};
-pub use dine_reader::{PlanFault, read_plan};
+pub use dine_graph::{EdgeId, EdgeIds, Job, JobName, Plan, PlanJob, PlanJobName, SiteId, SiteIds};
+pub use dine_reader::{About, PlanFault, read_plan};
 pub use texts::plan_text;

@@ -2,8 +2,8 @@
 ghost use Rattle.std.specs.Prelude.{◌≡◌, IfOk, OnOk, map, string_bytes};
 ghost use Rattle.toml.specs.View.{view, table_view};
 ghost use Rattle.dine_graph.specs.Job.{seen_job};
-ghost use Rattle.dine_graph.specs.Site.{seen_site};
-ghost use Rattle.dine_draft.specs.Draft.{names_of, seen_draft};
+ghost use Rattle.dine_draft.specs.Draft.{names_of};
+ghost use Rattle.dine_builder.specs.DraftPlan.{listed_draft, listed_site};
 ghost use Rattle.dine_plan.specs.DraftDocument.{Says, document_of, edge_table, end_name, job_table, site_table};
 ghost use Rattle.dine_plan.specs.DraftDocument.{policy_word, whole};
 ghost use Rattle.dine_plan.specs.private.Tables.{with_member, with_act_member};
@@ -16,7 +16,8 @@ use std::alloc::{AllocError, Global};
 use toml::{Table, Value};
 
 /// Returns a text of what a builder describes, in version 2 of the format. `read_plan` returns of it what `finish` of
-/// the builder returns.
+/// the builder returns, if no site has more than 1,000 jobs. Of a site with more the text has 1,001 jobs, and
+/// `read_plan` refuses it.
 ///
 /// # Errors
 ///
@@ -34,7 +35,7 @@ pub fn plan_text(alloc: Global, builder: &PlanBuilder) -> Result<String, AllocEr
 
 // The document of a draft.
 fn document(alloc: Global, draft: &Draft) -> Result<Table, AllocError>
-    ensures { IfOk result (λ t. table_view t ≡ document_of (seen_draft draft.now)) }
+    ensures { IfOk result (λ t. table_view t ≡ document_of (listed_draft draft.now)) }
 {
     let edges = edge_tables(alloc, draft.sites.as_slice(), draft.edges.as_slice())?;
     let sites = site_tables(alloc, draft.sites.as_slice())?;
@@ -46,7 +47,7 @@ fn document(alloc: Global, draft: &Draft) -> Result<Table, AllocError>
 }
 
 fn site_tables(alloc: Global, sites: &[Site]) -> Result<Vec<Value>, AllocError>
-    ensures { IfOk result (λ v. map view v.items ≡ map site_table (map seen_site sites.now)) }
+    ensures { IfOk result (λ v. map view v.items ≡ map site_table (map listed_site sites.now)) }
 {
     let mut tables = Vec::new(alloc);
     for site in sites {
@@ -56,7 +57,7 @@ fn site_tables(alloc: Global, sites: &[Site]) -> Result<Vec<Value>, AllocError>
 }
 
 fn site_table(alloc: Global, site: &Site) -> Result<Value, AllocError>
-    ensures { IfOk result (λ v. view v ≡ site_table (seen_site site.now)) }
+    ensures { IfOk result (λ v. view v ≡ site_table (listed_site site.now)) }
 {
     let jobs = job_tables(alloc, site.jobs.as_slice())?;
     let mut table = Table::new(alloc);
@@ -117,7 +118,7 @@ fn put_act(alloc: Global, table: &mut Table, act: Act) -> Result<(), AllocError>
 
 fn edge_tables(alloc: Global, sites: &[Site], edges: &[DraftEdge]) -> Result<Vec<Value>, AllocError>
     ensures { IfOk result
-        (λ v. map view v.items ≡ map (edge_table (names_of (map seen_site sites.now))) edges.now) }
+        (λ v. map view v.items ≡ map (edge_table (names_of (map listed_site sites.now))) edges.now) }
 {
     let mut tables = Vec::new(alloc);
     for edge in edges {
@@ -127,7 +128,7 @@ fn edge_tables(alloc: Global, sites: &[Site], edges: &[DraftEdge]) -> Result<Vec
 }
 
 fn edge_table(alloc: Global, sites: &[Site], edge: &DraftEdge) -> Result<Value, AllocError>
-    ensures { IfOk result (λ v. view v ≡ edge_table (names_of (map seen_site sites.now)) edge.now) }
+    ensures { IfOk result (λ v. view v ≡ edge_table (names_of (map listed_site sites.now)) edge.now) }
 {
     let mut ends = Vec::new(alloc);
     ends.push(Value::string(alloc, end_name(sites, edge.a))?)?;
@@ -140,7 +141,7 @@ fn edge_table(alloc: Global, sites: &[Site], edge: &DraftEdge) -> Result<Value, 
 
 // The name of a site, or the empty text if there is no site of this number.
 fn end_name(sites: &[Site], site: u32) -> &str
-    ensures { result.now ≡ end_name (names_of (map seen_site sites.now)) site }
+    ensures { result.now ≡ end_name (names_of (map listed_site sites.now)) site }
 {
     if site as usize >= sites.len() {
         return "";

@@ -9,6 +9,7 @@ use Rattle.std.proofs.lemmas.List.Sums.{fails_before_first}
 use Rattle.std.proofs.lemmas.List.FromFn.{length-range_with_len, get_or-range_with_len}
 use Rattle.std.proofs.lemmas.List.{length-map}
 use Rattle.toml.specs.Data.{Data}
+use Rattle.dine_graph.specs.declared.limits.TheConstants.{MAX_EDGES, MAX_SITES, MAX_TEXT_JOBS}
 use Rattle.dine_graph.specs.Plan.{no_site}
 use Rattle.dine_draft.specs.Fault.{number_of_fault, position_of_fault}
 use Rattle.dine_draft.specs.Refusals.{first_some, first_twice, stands_before, draft_refusals, site_refusals, end_refusals, pair_refusals, act_refusals, on, has_bad_name, has_many_jobs, has_many_turns, has_unknown_end, joined_by, is_loop, same_ends, has_large_act, has_large_value}
@@ -102,12 +103,12 @@ from_map doc fault f n None numbered holds h = absurd (cc)
 from_map doc fault f n (Some i) numbered holds h = subst (Describes doc n) (same_Some _ _ h) (numbered i, holds i refl)
 
 -- there are as many pairs as edges
-many_edges : (doc : Data) → 512 < length (joined_pairs doc) → 512 < length (drafted_edges doc)
+many_edges : (doc : Data) → MAX_EDGES < length (joined_pairs doc) → MAX_EDGES < length (drafted_edges doc)
 many_edges doc h =
     let same = length-map (drafted_edges doc) (joined_by (count_of doc)) in
     omega arith
 
-many_joined : (doc : Data) → 512 < length (drafted_edges doc) → 512 < length (joined_pairs doc)
+many_joined : (doc : Data) → MAX_EDGES < length (drafted_edges doc) → MAX_EDGES < length (joined_pairs doc)
 many_joined doc h =
     let same = length-map (drafted_edges doc) (joined_by (count_of doc)) in
     omega arith
@@ -121,13 +122,13 @@ entry_holds doc (suc (suc (suc zero))) f at = from_on doc WrongKind f 5 (refuses
 entry_holds doc (suc (suc (suc (suc zero)))) f at = from_map doc BadName f 6 (position has_bad_name (drafted_sites doc)) (λ _. refl) (passes_at has_bad_name no_site (drafted_sites doc)) (same_Some _ _ at)
 entry_holds doc (suc (suc (suc (suc (suc zero))))) f at = from_map doc SiteTwice f 7 (first_twice bytes_eq [] (site_names doc)) (λ _. refl) (twice_at bytes_eq [] (site_names doc)) (same_Some _ _ at)
 entry_holds doc (suc (suc (suc (suc (suc (suc zero)))))) f at = from_on doc NoSite f 8 (count_of doc == 0) refl (eqb-true (count_of doc) 0) (same_Some _ _ at)
-entry_holds doc (suc (suc (suc (suc (suc (suc (suc zero))))))) f at = from_on doc TooManySites f 9 (ltb 64 (count_of doc)) refl (ltb-true 64 (count_of doc)) (same_Some _ _ at)
-entry_holds doc (suc (suc (suc (suc (suc (suc (suc (suc zero)))))))) f at = from_map doc TooManyJobs f 10 (position has_many_jobs (drafted_sites doc)) (λ _. refl) (passes_at has_many_jobs no_site (drafted_sites doc)) (same_Some _ _ at)
+entry_holds doc (suc (suc (suc (suc (suc (suc (suc zero))))))) f at = from_on doc TooManySites f 9 (ltb MAX_SITES (count_of doc)) refl (ltb-true MAX_SITES (count_of doc)) (same_Some _ _ at)
+entry_holds doc (suc (suc (suc (suc (suc (suc (suc (suc zero)))))))) f at = from_map doc TooManyJobs f 10 (position (has_many_jobs MAX_TEXT_JOBS) (drafted_sites doc)) (λ _. refl) (passes_at (has_many_jobs MAX_TEXT_JOBS) no_site (drafted_sites doc)) (same_Some _ _ at)
 entry_holds doc (suc (suc (suc (suc (suc (suc (suc (suc (suc zero))))))))) f at = from_map doc TurnsTooLarge f 11 (position has_many_turns (drafted_sites doc)) (λ _. refl) (passes_at has_many_turns no_site (drafted_sites doc)) (same_Some _ _ at)
 entry_holds doc (suc (suc (suc (suc (suc (suc (suc (suc (suc (suc zero)))))))))) f at = from_map doc UnknownEnd f 12 (position (has_unknown_end (count_of doc)) (drafted_edges doc)) (λ _. refl) (passes_at (has_unknown_end (count_of doc)) no_edge (drafted_edges doc)) (same_Some _ _ at)
 entry_holds doc (suc (suc (suc (suc (suc (suc (suc (suc (suc (suc (suc zero))))))))))) f at = from_map doc Loop f 13 (position (is_loop (count_of doc)) (drafted_edges doc)) (λ _. refl) (passes_at (is_loop (count_of doc)) no_edge (drafted_edges doc)) (same_Some _ _ at)
 entry_holds doc (suc (suc (suc (suc (suc (suc (suc (suc (suc (suc (suc (suc zero)))))))))))) f at = from_map doc EdgeTwice f 14 (first_twice same_ends None (joined_pairs doc)) (λ _. refl) (twice_at same_ends None (joined_pairs doc)) (same_Some _ _ at)
-entry_holds doc (suc (suc (suc (suc (suc (suc (suc (suc (suc (suc (suc (suc (suc zero))))))))))))) f at = from_on doc TooManyEdges f 15 (ltb 512 (length (joined_pairs doc))) refl (λ h. many_edges doc (ltb-true 512 (length (joined_pairs doc)) h)) (same_Some _ _ at)
+entry_holds doc (suc (suc (suc (suc (suc (suc (suc (suc (suc (suc (suc (suc (suc zero))))))))))))) f at = from_on doc TooManyEdges f 15 (ltb MAX_EDGES (length (joined_pairs doc))) refl (λ h. many_edges doc (ltb-true MAX_EDGES (length (joined_pairs doc)) h)) (same_Some _ _ at)
 entry_holds doc (suc (suc (suc (suc (suc (suc (suc (suc (suc (suc (suc (suc (suc (suc zero)))))))))))))) f at = from_map doc TwoActs f 17 (position has_two_acts (sites_in doc)) (λ _. refl) (passes_at has_two_acts no_table (sites_in doc)) (same_Some _ _ at)
 entry_holds doc (suc (suc (suc (suc (suc (suc (suc (suc (suc (suc (suc (suc (suc (suc (suc zero))))))))))))))) f at = from_map doc ActTooLarge f 18 (position has_large_act (drafted_sites doc)) (λ _. refl) (passes_at has_large_act no_site (drafted_sites doc)) (same_Some _ _ at)
 entry_holds doc (suc (suc (suc (suc (suc (suc (suc (suc (suc (suc (suc (suc (suc (suc (suc (suc zero)))))))))))))))) f at = from_map doc ValueTooLarge f 19 (position has_large_value (drafted_edges doc)) (λ _. refl) (passes_at has_large_value no_edge (drafted_edges doc)) (same_Some _ _ at)
@@ -153,9 +154,9 @@ entry_of doc (SiteTwice place) holds =
 entry_of doc NoSite holds =
     (6, NoSite, refl, ap (λ b. Some (on b NoSite)) (eq-eqb (count_of doc) 0 holds), omega arith)
 entry_of doc TooManySites holds =
-    (7, TooManySites, refl, ap (λ b. Some (on b TooManySites)) (lt-ltb 64 (count_of doc) holds), omega arith)
+    (7, TooManySites, refl, ap (λ b. Some (on b TooManySites)) (lt-ltb MAX_SITES (count_of doc) holds), omega arith)
 entry_of doc (TooManyJobs place) holds =
-    let found = least has_many_jobs (drafted_sites doc) place no_site holds.0 holds.1 in (8, TooManyJobs found.0, refl, ap (λ o. Some (option_map TooManyJobs o)) found.1, found.2)
+    let found = least (has_many_jobs MAX_TEXT_JOBS) (drafted_sites doc) place no_site holds.0 holds.1 in (8, TooManyJobs found.0, refl, ap (λ o. Some (option_map TooManyJobs o)) found.1, found.2)
 entry_of doc (TurnsTooLarge place) holds =
     let found = least has_many_turns (drafted_sites doc) place no_site holds.0 holds.1 in (9, TurnsTooLarge found.0, refl, ap (λ o. Some (option_map TurnsTooLarge o)) found.1, found.2)
 entry_of doc (UnknownEnd place) holds =
@@ -165,7 +166,7 @@ entry_of doc (Loop place) holds =
 entry_of doc (EdgeTwice place) holds =
     let found = twice_least same_ends None (joined_pairs doc) place holds.0 holds.1 in (12, EdgeTwice found.0, refl, ap (λ o. Some (option_map EdgeTwice o)) found.1, found.2)
 entry_of doc TooManyEdges holds =
-    (13, TooManyEdges, refl, ap (λ b. Some (on b TooManyEdges)) (lt-ltb 512 (length (joined_pairs doc)) (many_joined doc holds)), omega arith)
+    (13, TooManyEdges, refl, ap (λ b. Some (on b TooManyEdges)) (lt-ltb MAX_EDGES (length (joined_pairs doc)) (many_joined doc holds)), omega arith)
 entry_of doc (TwoActs place) holds =
     let found = least has_two_acts (sites_in doc) place no_table holds.0 holds.1 in (14, TwoActs found.0, refl, ap (λ o. Some (option_map TwoActs o)) found.1, found.2)
 entry_of doc (ActTooLarge place) holds =

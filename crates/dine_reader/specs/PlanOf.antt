@@ -6,6 +6,7 @@ use Rattle.toml.specs.Data.{Data, Members, table}
 use Rattle.toml.specs.Parse.{parse_document}
 use Rattle.dine_token.specs.declared.act.Act.TheVariants.{Add}
 use Rattle.dine_graph.specs.Plan.{SeenJob, SeenSite, SeenPlan, act_of, resigns, value_of}
+use Rattle.dine_graph.specs.declared.limits.TheConstants.{MAX_TEXT_JOBS}
 use Rattle.dine_draft.specs.Draft.{SeenDraft, names_of, plan_of}
 use Rattle.dine_draft.specs.declared.drafts.DraftEdge.{DraftEdge}
 use Rattle.dine_reader.specs.Document.{sites_in, edges_in, jobs_in, name_in, turns_in, fails_in, act_in, resigns_in, value_in, version_in, end_in, has_two_acts, has_other_policy}
@@ -31,6 +32,7 @@ abbrev pub draft_in : ℕ → List Data → List Data → SeenDraft
 draft_in version sites edges =
     record {
       version = version;
+      most_jobs = MAX_TEXT_JOBS;
       sites = map site_in sites;
       edges = map (edge_in (names_of (map site_in sites))) edges;
       two_acts = position has_two_acts sites;

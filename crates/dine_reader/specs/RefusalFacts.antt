@@ -3,7 +3,7 @@
 use Rattle.std.specs.Prelude.{◌≡◌, ℕ, ◌<◌, ◌≤◌, ◌⊎◌, Bool, IsTrue, List, [], map, length, slice_index_or, Option, None}
 use Rattle.std.specs.Str.{bytes_eq}
 use Rattle.toml.specs.Data.{Data, table, no_members}
-use Rattle.dine_graph.specs.declared.limits.TheConstants.{MAX_EDGES, MAX_SITES}
+use Rattle.dine_graph.specs.declared.limits.TheConstants.{MAX_EDGES, MAX_SITES, MAX_TEXT_JOBS}
 use Rattle.dine_graph.specs.Plan.{SeenSite, no_site}
 use Rattle.dine_draft.specs.Draft.{names_of}
 use Rattle.dine_draft.specs.Fault.{number_of_fault, position_of_fault}
@@ -58,7 +58,7 @@ Refuses doc (BadName site) = PassesAt has_bad_name no_site (drafted_sites doc) s
 Refuses doc (SiteTwice site) = (site < length (site_names doc)) × IsTrue (stands_before bytes_eq [] (site_names doc) site)
 Refuses doc NoSite = count_of doc ≡ 0
 Refuses doc TooManySites = MAX_SITES < count_of doc
-Refuses doc (TooManyJobs site) = PassesAt has_many_jobs no_site (drafted_sites doc) site
+Refuses doc (TooManyJobs site) = PassesAt (has_many_jobs MAX_TEXT_JOBS) no_site (drafted_sites doc) site
 Refuses doc (TurnsTooLarge site) = PassesAt has_many_turns no_site (drafted_sites doc) site
 Refuses doc (UnknownEnd edge) = PassesAt (has_unknown_end (count_of doc)) no_edge (drafted_edges doc) edge
 Refuses doc (Loop edge) = PassesAt (is_loop (count_of doc)) no_edge (drafted_edges doc) edge

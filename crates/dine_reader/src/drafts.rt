@@ -20,7 +20,7 @@ use crate::documents::{
 use crate::forms::{Flaws, has_no_tables, has_no_text, site_has_other_key, site_lacks_key};
 use crate::jobs::jobs_in;
 use dine_draft::{Draft, DraftEdge};
-use dine_graph::Site;
+use dine_graph::{MAX_TEXT_JOBS, Site};
 use std::alloc::{AllocError, Global};
 use std::collections::BTreeMap;
 use toml::Value;
@@ -41,6 +41,7 @@ pub(crate) fn draft_in(alloc: Global, document: Value) -> Result<(Draft, Flaws),
     let sites = sites_in(alloc, second, take_items(alloc, document, "site"))?;
     let draft = Draft {
         version,
+        most_jobs: MAX_TEXT_JOBS,
         sites: sites.sites,
         edges,
         two_acts: narrow(sites.two_acts),
@@ -122,6 +123,7 @@ fn site_in(alloc: Global, site: Value) -> Result<(Site, bool), AllocError>
     let site = Site {
         name,
         jobs,
+        plain: 0,
         resigns,
     };
     Ok((site, no_texts || no_tables || wrong_jobs))

@@ -9,5 +9,5 @@ mod jobs;
 pub mod laws;
 mod reading;
 
-pub use dine_draft::PlanFault;
+pub use dine_draft::{About, PlanFault};
 pub use reading::read_plan;

@@ -22,6 +22,8 @@ pub enum Outcome {
     Thread(u32),
     /// That this is the lowest site that ended with a fault, and its fault.
     Broken(u32, SiteFault),
+    /// That a task was handed back since an allocation failed, and all others were done.
+    HandedBack,
     /// Anything else.
     Another,
 }

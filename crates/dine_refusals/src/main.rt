@@ -10,10 +10,12 @@
 //!   `edge_table`, `site_table`, `write_edges`, `write_sites` or `world_text`: a call that does not wait.
 //! - `run_channels` or `run_rings`: a run of the pair over links of that kind.
 //! - `run_jobs` or `run_jobs_channels`: a run of jobs of the pair, over rings or over channels.
+//! - `run_open`: an open run of a pair, whose tasks are submitted before it begins.
 //! - `site`: the lower site of the pair, over rings that are filled before it starts.
 #![tactic(auto)]
 
 mod calls;
+mod open_runs;
 mod pair;
 mod runs;
 mod site;
@@ -28,7 +30,7 @@ use std::thread::Threads;
 use std::{env, io};
 
 // Makes the call of this name, and returns its outcome. None if there is no such call.
-fn outcome<R: Threads + Wait + Copy + Send + 'static>(
+fn outcome<R: Threads + Wait + Copy + Drop + Send + 'static>(
     rt: &R,
     alloc: Global,
     name: &str,
@@ -38,6 +40,7 @@ fn outcome<R: Threads + Wait + Copy + Send + 'static>(
         "run_rings" => runs::run_pair::<RingLane, R>(rt, alloc)?,
         "run_jobs" => runs::run_idle(rt, alloc, runs::Links::Rings)?,
         "run_jobs_channels" => runs::run_idle(rt, alloc, runs::Links::Channels)?,
+        "run_open" => open_runs::run_open_pair(rt, alloc)?,
         _ => return outcome_at_once(alloc, name),
     };
     Ok(Some(outcome))
@@ -76,7 +79,7 @@ fn outcome_of_tables(alloc: Global, name: &str) -> Result<Option<Outcome>, Alloc
 }
 
 // Makes the call and prints its outcome. Returns false if there is no such call.
-fn print_outcome<R: Threads + Wait + Print + Copy + Send + 'static>(
+fn print_outcome<R: Threads + Wait + Print + Copy + Drop + Send + 'static>(
     rt: &R,
     alloc: Global,
     name: &str,

@@ -73,8 +73,8 @@ impl Job<()> for Idle {
     }
 }
 
-// Returns the outcome of a run of jobs that returned this cause.
-fn outcome_of_jobs(cause: JobsCause) -> Outcome {
+/// Returns the outcome of a run of jobs that returned this cause.
+pub fn outcome_of_jobs(cause: JobsCause) -> Outcome {
     match cause {
         JobsCause::Memory | JobsCause::Run(RunCause::Memory) => Outcome::Memory,
         JobsCause::Run(RunCause::Thread(site)) => Outcome::Thread(site),

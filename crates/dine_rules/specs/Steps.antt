@@ -1,5 +1,5 @@
 -- The steps of one site: what each needs, and what it changes.
-use Rattle.std.specs.Prelude.{◌≡◌, ℕ, ◌+◌, ◌<◌, ◌==◌, ◌&&◌, ◌||◌, not, Bool, true, false, List, [], ◌∷◌, ◌++◌, length, nat_lt, slice_set, Option, Some, option_map}
+use Rattle.std.specs.Prelude.{◌≡◌, ℕ, ◌+◌, ◌<◌, ◌==◌, ◌&&◌, ◌||◌, not, Bool, true, false, List, [], ◌∷◌, ◌++◌, length, nat_lt, slice_set, Option, Some, None, option_map}
 use Rattle.std.specs.List.{list_all, range_with_len}
 use Rattle.dine_token.specs.declared.log_entry.Entry.{Entry}
 use Rattle.dine_token.specs.Fork.{SeenFork, after_move}
@@ -7,8 +7,12 @@ use Rattle.dine_token.specs.Log.{is_dirty}
 use Rattle.dine_graph.specs.Plan.{SeenPlan, job_count, lo_of, hi_of, resigns, value_of}
 use Rattle.dine_rules.specs.declared.events.EventKind.{EventKind}
 use Rattle.dine_rules.specs.declared.events.EventKind.TheVariants as event
+use Rattle.dine_rules.specs.declared.events.Shape.{Shape}
+use Rattle.dine_rules.specs.declared.events.Shape.TheVariants.{Takes, Puts, Alone}
 use Rattle.dine_rules.specs.declared.letters.Letter.{Letter}
 use Rattle.dine_rules.specs.declared.letters.Letter.TheVariants as letter
+use Rattle.dine_rules.specs.declared.letters.LetterKind.{LetterKind}
+use Rattle.dine_rules.specs.declared.letters.LetterKind.TheVariants as letter_kind
 use Rattle.dine_rules.specs.declared.phase.Phase.TheVariants as phase
 use Rattle.dine_rules.specs.Letters.{has_done, has_close}
 use Rattle.dine_rules.specs.Local.{LocalState, Traffic, traffic_at, edge_at, neighbour_at, is_thinking, is_hungry, is_eating, has_no_job_left}
@@ -141,13 +145,6 @@ module _ (plan : SeenPlan) (s : ℕ) where
     pub needs : may old step ≡ true
     pub changes : new ≡ after old step
 
--- What an event does with the links of its site: it takes a letter at a place, it puts one at a place, or it does
--- neither.
-pub data Shape : Type 0 where
-  Takes : ℕ → Shape
-  Puts : ℕ → Shape
-  Alone : Shape
-
 -- the shape of each event
 abbrev pub shape_of : EventKind → Shape
 shape_of (event.Take i) = Takes i
@@ -159,6 +156,14 @@ shape_of event.Hungry = Alone
 shape_of (event.Ask i) = Puts i
 shape_of (event.Done i) = Puts i
 shape_of (event.Close i) = Puts i
+
+-- the kind of the letter that an event puts, if it puts one
+abbrev pub kind_put : EventKind → Option LetterKind
+kind_put (event.Give i) = Some letter_kind.Fork
+kind_put (event.Ask i) = Some letter_kind.Request
+kind_put (event.Done i) = Some letter_kind.Done
+kind_put (event.Close i) = Some letter_kind.Close
+kind_put kind = None
 
 -- the place of an event of this shape, if it has one, is less than n
 abbrev pub IsPlaceWithin : ℕ → Shape → Type 0

@@ -179,8 +179,8 @@ pub fn streams_are_kept()
 {}
 
 /// A site that keeps its streams puts few letters at a place: at most as many Requests as it has jobs, at most one Fork
-/// more than that, at most one Done and at most one Close. A site of a plan has at most 1,000 jobs, so that is at most
-/// 2,003 letters.
+/// more than that, at most one Done and at most one Close. So that is three letters more than twice the most jobs of a
+/// site.
 pub fn few_letters_are_put()
     ensures requests { (plan : SeenPlan) (s : ℕ) (state : LocalState) (i : ℕ) → KeepsStreams plan s state
         → i < length state.traffic
@@ -196,7 +196,7 @@ pub fn few_letters_are_put()
         → closes_in (traffic_at state i).put ≤ 1 }
     ensures letters { (plan : SeenPlan) (s : ℕ) (state : LocalState) (i : ℕ) → IsPlan plan → s < site_count plan
         → KeepsStreams plan s state
-        → i < length state.traffic → length (traffic_at state i).put ≤ 2003 }
+        → i < length state.traffic → length (traffic_at state i).put ≤ 2 * MAX_JOBS + 3 }
 {}
 
 /// A site that keeps its streams takes few letters at a place: at most as many Forks as it has jobs, at most one
@@ -216,7 +216,7 @@ pub fn few_letters_are_taken()
         → closes_in (traffic_at state i).taken ≤ 1 }
     ensures letters { (plan : SeenPlan) (s : ℕ) (state : LocalState) (i : ℕ) → IsPlan plan → s < site_count plan
         → KeepsStreams plan s state
-        → i < length state.traffic → length (traffic_at state i).taken ≤ 2003 }
+        → i < length state.traffic → length (traffic_at state i).taken ≤ 2 * MAX_JOBS + 3 }
 {}
 
 /// A letter is allowed exactly if it meets no breach.
@@ -393,7 +393,7 @@ pub fn finished_runs_are_complete()
 {}
 
 /// A whole run, after any choices, has as many events as the world at its end has effects, and at most the bound of the
-/// plan. No plan has a greater bound than 64 sites with 1,000 jobs each and 512 edges.
+/// plan. No plan has a greater bound than 64 sites with 4,294,967,295 jobs each and 512 edges.
 pub fn whole_runs_are_bounded()
     ensures counted { (plan : SeenPlan) (choices : List ℕ) → IsPlan plan
         → (whole_run plan choices).events ≡ effects_of (whole_run plan choices).world }

@@ -11,7 +11,7 @@ mod stamp;
 
 pub use breach::Breach;
 pub use clock::Clock;
-pub use events::{Event, EventKind};
+pub use events::{Event, EventKind, Shape};
 pub use letters::{Letter, LetterKind};
 pub use phase::Phase;
 pub use stamp::Stamp;

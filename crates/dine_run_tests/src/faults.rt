@@ -91,6 +91,13 @@ fn a_run_that_broke_names_its_site_and_the_fault_of_it(rt: HostRuntime) -> Resul
             ("run broken at site 1: Lost on link 2", "Broken(1, Lost(2))"),
         ),
         (
+            SiteFault::LostBell { degree: 2 },
+            (
+                "run broken at site 1: Lost on link 2",
+                "Broken(1, LostBell { degree: 2 })",
+            ),
+        ),
+        (
             SiteFault::NotStarted,
             ("run broken at site 1: NotStarted", "Broken(1, NotStarted)"),
         ),

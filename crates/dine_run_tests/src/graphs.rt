@@ -230,7 +230,7 @@ struct Way {
     here: Ate,
     there: Ate,
     is_used: bool,
-    moves: u32,
+    moves: u64,
 }
 
 // Checks the log: the fork goes to and fro, from the lower end first. Only the end that has it eats with it, and the
@@ -309,7 +309,7 @@ pub fn holds_forks(rt: &impl Abort, graph: &Graph, fails_each: u32, forks: &[For
 fn holds_link(rt: &impl Abort, link: &LinkEnd, edge: u32, from: u32, fork: &Fork) {
     same(rt, &(link.edge(), link.from()), &(edge, from));
     same(rt, &(link.put(), link.shut()), &(link.taken(), true));
-    let letters = 2 + u64::from(fork.moves());
+    let letters = fork.moves().saturating_add(2);
     same(rt, &(edge, from, link.put()), &(edge, from, letters));
 }
 

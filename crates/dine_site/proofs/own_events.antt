@@ -2,3 +2,4 @@
 pub mod Marked
 pub mod MarkedEvents
 pub mod OwnEvents
+pub mod PutEvents

@@ -1,5 +1,6 @@
 -- What a site did: the events of its journal, each in its turn; and after a fault, the Closes with which it broke off.
-use Rattle.std.specs.Prelude.{◌≡◌, ◌⊎◌, ℕ, zero, suc, ◌+◌, ◌-◌, ◌==◌, Bool, true, false, List, [], ◌∷◌, filter, map, Option, Some, None, if◌then◌else◌}
+use Rattle.std.specs.Prelude.{◌≡◌, ◌⊎◌, ℕ, zero, suc, ◌+◌, ◌-◌, ◌^◌, ◌==◌, ◌&&◌, nat_le, min, Bool, true, false, List, [], ◌∷◌, filter, map, Option, Some, None, if◌then◌else◌}
+use Rattle.std.specs.Int.{is_power_of_two}
 use Rattle.dine_graph.specs.Plan.{SeenPlan}
 use Rattle.dine_rules.specs.declared.events.EventKind.{EventKind}
 use Rattle.dine_rules.specs.declared.events.EventKind.TheVariants as event
@@ -10,6 +11,7 @@ use Rattle.dine_rules.specs.Steps.{Step, Give, Ask, Hungry, Begin, End, Quit, Do
 use Rattle.dine_site.specs.NextEvent.{next_event}
 use Rattle.dine_site_thread.specs.declared.manner.Manner.{Manner}
 use Rattle.dine_site_thread.specs.declared.manner.Manner.TheVariants.{Eager, Greedy, Patient, OnCall}
+use Rattle.dine_site_thread.specs.declared.manner.TheConstants.{FIRST_CHECK}
 
 -- the event that a step is; a Break is none
 abbrev pub event_of : Step → Option EventKind
@@ -30,11 +32,11 @@ own_event (Take i l) = None
 own_event step = event_of step
 
 -- When a site of this manner may take a letter; `next` is the first event that needs no letter and that the rules
--- allow, if there is one. An eager or a greedy site may take a letter if there is none, and a patient one also if it is
+-- allow, if there is one. An eager site may take a letter if there is none, and a greedy or a patient one also if it is
 -- Begin. A site on call may do so also if it is Hungry: it thinks on.
 abbrev pub MayTakeBefore : Manner → Option EventKind → Type 0
 MayTakeBefore Eager next = next ≡ None
-MayTakeBefore Greedy next = next ≡ None
+MayTakeBefore Greedy next = (next ≡ None) ⊎ (next ≡ Some event.Begin)
 MayTakeBefore (Patient k) next = (next ≡ None) ⊎ (next ≡ Some event.Begin)
 MayTakeBefore (OnCall k) next = (next ≡ None) ⊎ (next ≡ Some event.Begin) ⊎ (next ≡ Some event.Hungry)
 
@@ -75,42 +77,38 @@ abbrev pub is_close_at : ℕ → EventKind → Bool
 is_close_at i (event.Close j) = j == i
 is_close_at i kind = false
 
--- Of these positions, the first after `skips` others, and then one in k.
-abbrev pub one_in : ℕ → ℕ → List ℕ → List ℕ
-one_in k skips [] = []
-one_in k zero (n ∷ ns) = n ∷ one_in k (k - 1) ns
-one_in k (suc skips) (n ∷ ns) = one_in k skips ns
-
--- how many further positions are passed over, once these were gone through
-abbrev pub skips_after : ℕ → ℕ → List ℕ → ℕ
-skips_after k skips [] = skips
-skips_after k zero (n ∷ ns) = skips_after k (k - 1) ns
-skips_after k (suc skips) (n ∷ ns) = skips_after k skips ns
-
--- The record of empty checks that goes with this manner and this journal. Eager and greedy sites check nothing. A site
--- of patience k checks before its first meal and then before one meal in k, and so does one that is on call; each check
--- is noted by the number of events before it.
-abbrev pub empty_checks_of : Manner → List EventKind → List ℕ
-empty_checks_of Eager journal = []
-empty_checks_of Greedy journal = []
-empty_checks_of (Patient k) journal = one_in k 0 (begins_from 0 journal)
-empty_checks_of (OnCall k) journal = one_in k 0 (begins_from 0 journal)
-
--- whether a site of this manner checks its bell before its next meal, if it is to begin `skips` meals without a check
+-- Whether a site of this manner checks its bell before its next meal, by a tally that begins with 0. That of a patient
+-- site says how many meals it is to begin without a check, and that of a greedy one how many it has begun.
 abbrev pub is_checking : Manner → ℕ → Bool
-is_checking Eager skips = false
-is_checking Greedy skips = false
-is_checking (Patient k) skips = skips == 0
-is_checking (OnCall k) skips = skips == 0
+is_checking Eager tally = false
+is_checking Greedy tally = nat_le FIRST_CHECK tally && is_power_of_two tally
+is_checking (Patient k) tally = tally == 0
+is_checking (OnCall k) tally = tally == 0
 
--- how many meals it is to begin without a check after that meal
-abbrev pub skips_then : Manner → ℕ → ℕ
-skips_then Eager skips = 0
-skips_then Greedy skips = 0
-skips_then (Patient k) zero = k - 1
-skips_then (Patient k) (suc skips) = skips
-skips_then (OnCall k) zero = k - 1
-skips_then (OnCall k) (suc skips) = skips
+-- the tally after this meal; that of a greedy site has 32 bits
+abbrev pub tally_then : Manner → ℕ → ℕ
+tally_then Eager tally = 0
+tally_then Greedy tally = min (2 ^ 32 - 1) (tally + 1)
+tally_then (Patient k) zero = k - 1
+tally_then (Patient k) (suc tally) = tally
+tally_then (OnCall k) zero = k - 1
+tally_then (OnCall k) (suc tally) = tally
+
+-- of these positions of meals, those before which a site of this manner checks its bell, from this tally on
+abbrev pub checks_from : Manner → ℕ → List ℕ → List ℕ
+checks_from manner tally [] = []
+checks_from manner tally (n ∷ ns) = if is_checking manner tally then n ∷ checks_from manner (tally_then manner tally) ns else checks_from manner (tally_then manner tally) ns
+
+-- the tally after these meals
+abbrev pub tally_after : Manner → ℕ → List ℕ → ℕ
+tally_after manner tally [] = tally
+tally_after manner tally (n ∷ ns) = tally_after manner (tally_then manner tally) ns
+
+-- The record of empty checks that goes with this manner and this journal. An eager site checks nothing. A greedy one
+-- checks before some of its meals, fewer and fewer of them. A site of patience k checks before its first meal and then
+-- before one meal in k, and so does one that is on call. Each check is noted by the number of events before it.
+abbrev pub empty_checks_of : Manner → List EventKind → List ℕ
+empty_checks_of manner journal = checks_from manner 0 (begins_from 0 journal)
 
 -- something comes to the site in the step: a letter in a Take, an outcome in an End, a fault before a Break
 abbrev pub is_brought : Step → Bool

@@ -61,13 +61,12 @@ traffic_on links = record { put = links.put; taken = links.taken }
 abbrev pub nothing_on_links : OnLinks
 nothing_on_links = record { put = []; taken = []; put_refused = false; take_refused = false }
 
--- `link` is a place or the number of the places. If it is a place, its link refused a put, a close or a take; if not,
--- nothing is said of what refused. If a letter was handed back, it was to go to this place, and it is not Close; then
--- `link` is not the number of the places.
+-- `link` is a place, and its link refused a put, a close or a take. If a letter was handed back, it was to go to this
+-- place, and it is not Close.
 pub record IsLost (places : ℕ) (links : ℕ → OnLinks) (stray : Option Stray) (link : ℕ) : Type 0 where
-  pub within : link ≤ places
-  pub refused : link < places → ((links link).put_refused ≡ true) ⊎ ((links link).take_refused ≡ true)
-  pub to_place : (back : Stray) → stray ≡ Some back → (back.link ≡ link) × (link < places)
+  pub within : link < places
+  pub refused : ((links link).put_refused ≡ true) ⊎ ((links link).take_refused ≡ true)
+  pub to_place : (back : Stray) → stray ≡ Some back → back.link ≡ link
   pub no_close : (back : Stray) → stray ≡ Some back → is_close back.letter ≡ false
 
 -- what the links of a place have, by its port
@@ -95,7 +94,7 @@ pub record Ending : Type 0 where
 -- have exactly what it put, and none of them refused. If the site was not started, the state is its initial state;
 -- otherwise it has put Close everywhere. If a link refused a take, the report names it as lost. If the report names a
 -- breach, the letter that was handed back has this breach. If it names a link as lost, `IsLost` holds of it. If it
--- names neither, no letter was handed back.
+-- names neither, no letter was handed back. If it names a bell as lost, it has the number of the places.
 pub record HasEnded (manner : Manner) (plan : SeenPlan) (s : ℕ) (state : LocalState) (links : ℕ → OnLinks) (end : Ending) : Type 0 where
   pub keeps : KeepsStreams plan s state
   pub rests : is_eating state.phase ≡ false
@@ -115,3 +114,4 @@ pub record HasEnded (manner : Manner) (plan : SeenPlan) (s : ℕ) (state : Local
   pub no_stray : hands_back end.fault ≡ false → end.stray ≡ None
   pub breach : (link : ℕ) (breach : Breach) → end.fault ≡ Some (fault.Breach link breach) → IsBreached plan s state end.stray link breach
   pub lost : (link : ℕ) → end.fault ≡ Some (fault.Lost link) → IsLost (length state.traffic) links end.stray link
+  pub degree : (degree : ℕ) → end.fault ≡ Some (fault.LostBell degree) → degree ≡ length state.traffic

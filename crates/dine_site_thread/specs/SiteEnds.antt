@@ -64,7 +64,7 @@ pub record IsLeft {Identity : Type 0} (manner : Manner) (plan : SeenPlan) (s : �
   pub same_links : (i : ℕ) (old new : SeenPort Identity) → slice_get given i ≡ Some old → slice_get end.ports i ≡ Some new → SameLinks old new
   pub rang : (i : ℕ) (port : SeenPort Identity) → slice_get end.ports i ≡ Some port → HasRung port
   pub heard : end.fault ≡ None → (end.bell.refused ≡ false) × ((i : ℕ) (port : SeenPort Identity) → slice_get end.ports i ≡ Some port → port.ringer.refused ≡ false)
-  pub lost_bell : end.fault ≡ Some (fault.Lost (length state.traffic)) → HasBellRefused end.ports end.bell
+  pub lost_bell : (degree : ℕ) → end.fault ≡ Some (fault.LostBell degree) → HasBellRefused end.ports end.bell
 
 -- What a site leaves that was started. If a wait for its bell was refused, it reports the bell as lost. If a ring of
 -- one of its ringers was refused, it does so too, or it broke off at this place, and at most one letter there has no
@@ -72,5 +72,5 @@ pub record IsLeft {Identity : Type 0} (manner : Manner) (plan : SeenPlan) (s : �
 pub record IsSiteEnd {Identity : Type 0} (manner : Manner) (plan : SeenPlan) (s : ℕ) (given : List (SeenPort Identity)) (end : SeenSiteEnd Identity) : Type 0 where
   pub left : IsLeft manner plan s given end
   pub started : end.fault ≢ Some fault.NotStarted
-  pub wait_reported : end.bell.refused ≡ true → end.fault ≡ Some (fault.Lost (length end.ports))
-  pub ring_reported : (i : ℕ) (port : SeenPort Identity) → slice_get end.ports i ≡ Some port → port.ringer.refused ≡ true → (end.fault ≡ Some (fault.Lost (length end.ports))) ⊎ BrokeOffUnheard i end.journal port
+  pub wait_reported : end.bell.refused ≡ true → end.fault ≡ Some (fault.LostBell (length end.ports))
+  pub ring_reported : (i : ℕ) (port : SeenPort Identity) → slice_get end.ports i ≡ Some port → port.ringer.refused ≡ true → (end.fault ≡ Some (fault.LostBell (length end.ports))) ⊎ BrokeOffUnheard i end.journal port

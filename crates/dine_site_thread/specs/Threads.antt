@@ -11,7 +11,7 @@ use Rattle.dine_rules.specs.declared.letters.Letter.{Letter}
 use Rattle.dine_rules.specs.Letters.{has_close}
 use Rattle.dine_rules.specs.Local.{LocalState, start_of, traffic_at}
 use Rattle.dine_rules.specs.StepLists.{LeadTo}
-use Rattle.dine_rules.specs.Steps.{Step, Give, Ask, Hungry, Begin, End, Quit, Done, Close, Break, Take, after}
+use Rattle.dine_rules.specs.Steps.{Step, Give, Ask, Begin, End, Done, Close, Break, Take, after}
 use Rattle.dine_set.specs.Marks.{both_marks}
 use Rattle.dine_site.specs.CoreWants.{can_put_off_by_lists, wants_by_lists}
 use Rattle.dine_site.specs.NextEvent.{next_event}
@@ -22,18 +22,18 @@ use Rattle.dine_link.specs.declared.wants.Wants.{Wants}
 use Rattle.dine_link.specs.Deeds.{hearing, ringing}
 use Rattle.dine_link.specs.Waking.{seen_wants}
 use Rattle.dine_site_thread.specs.declared.manner.Manner.{Manner}
-use Rattle.dine_site_thread.specs.Doings.{MayTakeBefore, event_of, is_checking, is_on_call, own_event, puts_letters_off, skips_then}
+use Rattle.dine_site_thread.specs.Doings.{MayTakeBefore, event_of, is_checking, is_on_call, own_event, puts_letters_off, tally_then}
 use Rattle.dine_site_thread.specs.Ports.{SeenPort}
 
 -- What the thread remembers between its turns, beside the state of its site: at which places it heard a ring and has
 -- put the letter off, as 64 truth values, and how many meals it is to begin without a check of its bell.
 pub record Memo : Type 0 where
   pub put_off : List Bool
-  pub skips : ℕ
+  pub tally : ℕ
 
 -- nothing yet
 abbrev pub no_memo : Memo
-no_memo = record { put_off = replicate 64 false; skips = 0 }
+no_memo = record { put_off = replicate 64 false; tally = 0 }
 
 -- One turn of a site.
 -- - Acts: it did this event, which is no Begin, End or Take. If it put a letter, the site rang for it at once. If the
@@ -69,7 +69,7 @@ steps_of (Forgets i) = []
 
 -- what the thread of a site of this manner remembers after a turn
 abbrev pub memo_after : Manner → Memo → Turn → Memo
-memo_after manner memo (Eats failed) = record memo { skips = skips_then manner memo.skips }
+memo_after manner memo (Eats failed) = record memo { tally = tally_then manner memo.tally }
 memo_after manner memo (PutsOff slept i) = record memo { put_off = slice_set memo.put_off i true }
 memo_after manner memo (Recalls i letter) = record memo { put_off = slice_set memo.put_off i false }
 memo_after manner memo (Forgets i) = record memo { put_off = slice_set memo.put_off i false }
@@ -85,12 +85,12 @@ ringing_for step woken = []
 
 -- the check of a site of this manner before a meal, if it is due: it found no ring
 abbrev pub checking : Manner → ℕ → List Deed
-checking manner skips = if is_checking manner skips then FoundNone ∷ [] else []
+checking manner tally = if is_checking manner tally then FoundNone ∷ [] else []
 
 -- what the thread did in a turn, in order
 abbrev pub deeds_of : Manner → Memo → Turn → List Deed
 deeds_of manner memo (Acts step woken) = map Did (option_to_list (event_of step)) ++ ringing_for step woken
-deeds_of manner memo (Eats failed) = checking manner memo.skips ++ Did event.Begin ∷ Did event.End ∷ []
+deeds_of manner memo (Eats failed) = checking manner memo.tally ++ Did event.Begin ∷ Did event.End ∷ []
 deeds_of manner memo (Takes slept i letter) = hearing slept i ++ Did (event.Take i) ∷ []
 deeds_of manner memo (PassesOver slept i) = hearing slept i
 deeds_of manner memo (PutsOff slept i) = hearing slept i
@@ -131,7 +131,7 @@ CallsForNone state i = (length state.traffic ≤ i) ⊎ (has_close (traffic_at s
 -- off until the next meal, none there is put off yet, and it is not eager.
 abbrev pub IsTurn : Manner → SeenPlan → ℕ → LocalState → Memo → Turn → Type 0
 IsTurn manner plan s state memo (Acts step woken) = (acts_alone step ≡ true) × (next_event plan s state ≡ own_event step)
-IsTurn manner plan s state memo (Eats failed) = (next_event plan s state ≡ Some event.Begin) × (is_checking manner memo.skips ≡ true → first_that_matters plan s state memo ≡ None)
+IsTurn manner plan s state memo (Eats failed) = (next_event plan s state ≡ Some event.Begin) × (is_checking manner memo.tally ≡ true → first_that_matters plan s state memo ≡ None)
 IsTurn manner plan s state memo (Takes slept i letter) = MayTakeBefore manner (next_event plan s state) × MayHaveSlept manner plan s state memo slept
 IsTurn manner plan s state memo (PassesOver slept i) = MayTakeBefore manner (next_event plan s state) × MayHaveSlept manner plan s state memo slept × CallsForNone state i
 IsTurn manner plan s state memo (PutsOff slept i) = MayTakeBefore manner (next_event plan s state) × MayHaveSlept manner plan s state memo slept

@@ -1,5 +1,8 @@
 //! The manners in which a site does its events: when it reads its letters, and which it leaves in their links.
 
+/// The number of meals that a greedy site begins before it first checks its bell.
+pub const FIRST_CHECK: u32 = 128;
+
 /// When a site reads its letters. In each manner it does so when it can do nothing else.
 ///
 /// Which manner a site has changes nothing about who may eat. It changes how often forks move, and how long a neighbour
@@ -9,9 +12,10 @@ pub enum Manner {
     /// Reads its letters only when it can do nothing else, and then takes each that has arrived. A neighbour that asked
     /// may wait for all meals of the site.
     Eager,
-    /// As [`Manner::Eager`], but a letter stays in its link until it matters. A Request for a fork that is clean in the
-    /// hand of the site lets the site do nothing before its next meal, and once it is taken the fork has to go away
-    /// after this meal. So few letters are sent, and a neighbour that asked may wait for all meals of the site.
+    /// Reads its letters also after 128 meals, 256, 512 and so on, each time until a check of its bell reports no ring.
+    /// A letter stays in its link until it matters: a Request for a fork that is clean in the hand of the site lets the
+    /// site do nothing before its next meal, and once it is taken the fork has to go away after this meal. So few
+    /// letters are sent. A neighbour that asked may wait for as many meals as the site has begun, or 128.
     Greedy,
     /// Reads its letters also before its first meal, and then before one meal in this number, until a check of its bell
     /// reports no ring. Letters stay in their links as with [`Manner::Greedy`]. So a neighbour that has rung for its

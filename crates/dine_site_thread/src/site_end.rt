@@ -22,9 +22,11 @@ pub struct Stray {
 pub enum SiteFault {
     /// The letter that arrived at this place was not allowed, for this reason.
     Breach(u32, Breach),
-    /// The link of this place refused a put, a close or a take. If the number is the count of the places, so that no
-    /// place has it, a bell refused: the bell of a neighbour refused a ring, or the bell of the site refused a wait.
+    /// The link of this place refused a put, a close or a take.
     Lost(u32),
+    /// A bell refused: that of a neighbour a ring, or that of the site a wait. The degree is the number of the edges of
+    /// the site.
+    LostBell { degree: u32 },
     /// The site was not started, and did nothing.
     NotStarted,
     /// An allocation for the journal failed, before an event.
@@ -32,7 +34,7 @@ pub enum SiteFault {
 }
 
 /// `Breach 6 on link 0`, `Lost on link 0`, `NotStarted` or `Memory`: a breach has its number, 1 to 6, and each link the
-/// number of its place.
+/// number of its place. A bell that refused is printed as the link behind the last place, whose number is the degree.
 impl fmt::Display for SiteFault {
     ghost output = { λ fault. Some (site_fault_words fault) };
 
@@ -43,6 +45,7 @@ impl fmt::Display for SiteFault {
                 write!(f, "Breach {number} on link {link}")
             }
             SiteFault::Lost(link) => write!(f, "Lost on link {link}"),
+            SiteFault::LostBell { degree } => write!(f, "Lost on link {degree}"),
             SiteFault::NotStarted => f.write_str("NotStarted"),
             SiteFault::Memory => f.write_str("Memory"),
         }

@@ -171,7 +171,7 @@ fn journals_show_which_meal_failed(rt: HostRuntime) {
 
 // Checks how many events are placed if the lower site has this number of meals and of Quits, and the other has no
 // event.
-fn stuck_after(rt: &impl Abort, alloc: Global, plan: &Plan, meals: u32, quits: u32, placed: u32) {
+fn stuck_after(rt: &impl Abort, alloc: Global, plan: &Plan, meals: u32, quits: u32, placed: u64) {
     let mut lower = Vec::new(alloc);
     for _ in 0..meals {
         for kind in [EventKind::Hungry, EventKind::Begin, EventKind::End] {

@@ -91,20 +91,20 @@ fn runs_in<L: Lane, R: Wait + Abort>(
     requires unrefused { bell.refused ≡ false }
     requires unused { All IsFreshPort (seen_ports L.Lane ports.items) }
 {
-    let core = core_of(rt, alloc, plan, left.site);
+    let core = core_of(rt, alloc, plan, left.site, 2);
     assert!(rt; core.degree() as usize == ports.len());
     let diner = Taster::open(alloc, 2, fails_each).expect(rt, "memory");
     let end = run_site::<R, L, Taster>(rt, alloc, core, ports, bell, diner);
     is_left(rt, end, left)
 }
 
-// Returns the core of a site with at most two jobs.
-fn core_of(rt: &impl Abort, alloc: Global, plan: &Plan, site: u32) -> SiteCore
+// Returns the core of a site with at most so many jobs.
+fn core_of(rt: &impl Abort, alloc: Global, plan: &Plan, site: u32, most: u32) -> SiteCore
     ensures fresh { IsFreshFor plan.now result }
-    ensures due { result.due ≤ 2 }
+    ensures due { result.due ≤ most }
 {
     assert!(rt; site < plan.sites());
-    assert!(rt; plan.jobs(site) <= 2);
+    assert!(rt; plan.jobs(site) <= most);
     let forks = fresh_forks(alloc, plan, site).expect(rt, "memory");
     let tokens = fresh_tokens(alloc, plan, site).expect(rt, "memory");
     SiteCore::open(alloc, plan, site, forks, tokens).expect(rt, "memory")

@@ -4,6 +4,7 @@ use Rattle.std.specs.List.{range_with_len}
 use Rattle.std.proofs.lemmas.Bool.{cond-false, cond-true, eqb-false, false≢true}
 use Rattle.std.proofs.lemmas.List.Elements.{filter-append}
 use Rattle.std.proofs.lemmas.List.FromFn.{length-range_with_len}
+use Rattle.dine_graph.specs.declared.limits.TheConstants.{MAX_EDGES}
 use Rattle.dine_graph.specs.Plan.{SeenPlan, IsPlan, edges_of, is_one_of}
 use Rattle.dine_graph.proofs.shared.ListLemmas.{length-filter-le}
 use Rattle.dine_states.proofs.Orders.{range_more}
@@ -40,7 +41,7 @@ fails_more p xs n ready is =
     ∙ sym (filter-append (λ i. not (p i)) (range_with_len 0 n) (n ∷ [])) ∙ ap (filter (λ i. not (p i))) (sym (range_more n))
 
 -- a site has few places
-pub few_places : (plan : SeenPlan) (s : ℕ) → IsPlan plan → length (edges_of plan s) ≤ 512
+pub few_places : (plan : SeenPlan) (s : ℕ) → IsPlan plan → length (edges_of plan s) ≤ MAX_EDGES
 few_places plan s is_plan =
     omega (arith, length-filter-le (λ (e : ℕ). is_one_of (slice_index_or plan.edges e (0, 0)) s) (range_with_len 0 (length plan.edges)), length-range_with_len 0 (length plan.edges), is_plan.few_edges)
 

@@ -11,7 +11,9 @@ use Rattle.dine_rules.specs.Holdings.{fork_at, hand_at, token_at}
 use Rattle.dine_rules.specs.Letters.{has_close, has_done}
 use Rattle.dine_rules.specs.Links.{queue_to}
 use Rattle.dine_rules.specs.Local.{LocalState, has_no_job_left, is_eating, is_hungry, traffic_at}
-use Rattle.dine_rules.specs.Steps.{Shape, Takes, Puts, Alone, is_ready, shape_of}
+use Rattle.dine_rules.specs.declared.events.Shape.{Shape}
+use Rattle.dine_rules.specs.declared.events.Shape.TheVariants.{Takes, Puts, Alone}
+use Rattle.dine_rules.specs.Steps.{is_ready, shape_of}
 use Rattle.dine_rules.specs.World.{WorldState, state_of}
 use Rattle.dine_states.specs.declared.why.Reason.{Reason}
 use Rattle.dine_states.specs.declared.why.Reason.TheVariants as reason

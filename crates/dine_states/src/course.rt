@@ -1,8 +1,8 @@
 //! All events of a schedule, as JSON.
 
-use crate::events::Enabled;
+use crate::events::{Enabled, letter_for};
 use dine_graph::Plan;
-use dine_world::{EventKind, LetterKind, World};
+use dine_world::World;
 use serde::Serialize;
 use std::alloc::{AllocError, Global};
 
@@ -62,26 +62,5 @@ impl Course {
         self.sites.push(enabled.event.site)?;
         self.edges.push(enabled.edge(plan))?;
         self.kinds.push(letter_for(enabled))
-    }
-}
-
-// The letter for an event. That of a Take is the capital of the one for the event that put what it takes.
-fn letter_for(enabled: Enabled) -> char {
-    match enabled.event.kind {
-        EventKind::Hungry => 'h',
-        EventKind::Ask(_) => 'a',
-        EventKind::Give(_) => 'g',
-        EventKind::Begin => 'b',
-        EventKind::End if enabled.failed => 'x',
-        EventKind::End => 'e',
-        EventKind::Quit => 'q',
-        EventKind::Done(_) => 'd',
-        EventKind::Close(_) => 'c',
-        EventKind::Take(_) => match enabled.letter {
-            Some(LetterKind::Fork) => 'G',
-            Some(LetterKind::Request) => 'A',
-            Some(LetterKind::Done) => 'D',
-            Some(LetterKind::Close) | None => 'C',
-        },
     }
 }

@@ -6,6 +6,7 @@ ghost use Rattle.dine_world.specs.Worlds.{ForEachWorld};
 ghost use Rattle.dine_states.specs.private.ReasonsAtEnds.{event_place};
 
 use dine_graph::Plan;
+use dine_rules::Shape;
 use dine_world::{Event, EventKind, LetterKind, World};
 use std::alloc::AllocError;
 
@@ -61,11 +62,7 @@ impl Enabled {
 fn letter_of(world: &World, event: Event) -> Option<LetterKind> {
     match event.kind {
         EventKind::Take(i) => world.letter_to(event.site, i, 0),
-        EventKind::Give(_) => Some(LetterKind::Fork),
-        EventKind::Ask(_) => Some(LetterKind::Request),
-        EventKind::Done(_) => Some(LetterKind::Done),
-        EventKind::Close(_) => Some(LetterKind::Close),
-        EventKind::End | EventKind::Begin | EventKind::Quit | EventKind::Hungry => None,
+        kind => kind.puts(),
     }
 }
 
@@ -106,13 +103,9 @@ pub fn name_of(plan: &Plan, site: u32) -> &str {
 pub fn place_of(kind: EventKind) -> Option<u32>
     ensures { result ≡ event_place (shape_of kind) }
 {
-    match kind {
-        EventKind::Take(i)
-        | EventKind::Give(i)
-        | EventKind::Ask(i)
-        | EventKind::Done(i)
-        | EventKind::Close(i) => Some(i),
-        EventKind::End | EventKind::Begin | EventKind::Quit | EventKind::Hungry => None,
+    match kind.shape() {
+        Shape::Takes(i) | Shape::Puts(i) => Some(i),
+        Shape::Alone => None,
     }
 }
 
@@ -156,6 +149,28 @@ pub fn name_of_letter(kind: LetterKind) -> &'static str {
         LetterKind::Request => "request",
         LetterKind::Done => "done",
         LetterKind::Close => "close",
+    }
+}
+
+/// Returns the letter for the event in a column. That of a Take is the capital of the one for the event that put what
+/// it takes.
+pub fn letter_for(enabled: Enabled) -> char {
+    match enabled.event.kind {
+        EventKind::Hungry => 'h',
+        EventKind::Ask(_) => 'a',
+        EventKind::Give(_) => 'g',
+        EventKind::Begin => 'b',
+        EventKind::End if enabled.failed => 'x',
+        EventKind::End => 'e',
+        EventKind::Quit => 'q',
+        EventKind::Done(_) => 'd',
+        EventKind::Close(_) => 'c',
+        EventKind::Take(_) => match enabled.letter {
+            Some(LetterKind::Fork) => 'G',
+            Some(LetterKind::Request) => 'A',
+            Some(LetterKind::Done) => 'D',
+            Some(LetterKind::Close) | None => 'C',
+        },
     }
 }
 

@@ -148,6 +148,7 @@ fn reasons_of(kind: EventKind) -> &'static [Reason]
     ensures { result.now ≡ reasons_of kind }
 {
     match kind {
+        // words reasons of kinds, by tools/words
         EventKind::Take(_) => &[NoEvent, NoLetter],
         EventKind::Give(_) => &[NoEvent, Closed, NoFork, NotAsked, Eating, Clean],
         EventKind::End => &[NoEvent, NotEating],
@@ -157,6 +158,7 @@ fn reasons_of(kind: EventKind) -> &'static [Reason]
         EventKind::Ask(_) => &[NoEvent, Closed, HasFork, Asked, NotHungry],
         EventKind::Done(_) => &[NoEvent, Said, JobsLeft, Eating],
         EventKind::Close(_) => &[NoEvent, Closed, NotSaid, NotHeard],
+        // end
     }
 }
 

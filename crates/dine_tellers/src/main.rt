@@ -17,20 +17,20 @@
 
 mod teller;
 
-ghost use Rattle.std.specs.Prelude.{◌≡◌, Some, IfOk, length, map, slice_get};
+ghost use Rattle.std.specs.Prelude.{◌≡◌, ◌<◌, ◌≤◌, ℕ, IsTrue, Some, IfOk, length, map, slice_get};
 ghost use Rattle.dine_graph.specs.Plan.{job_count, site_count};
 ghost use Rattle.dine_rules.specs.EatingApart.{NeighboursEatApart};
 ghost use Rattle.dine_rules.specs.Journals.{IsWholeOrder};
 ghost use Rattle.dine_run.specs.Shown.{plan_shown};
 ghost use Rattle.dine_tellers.specs.Balances.{IsBooks};
-ghost use Rattle.dine_tellers.specs.Tellers.{AreFresh, HaveSent};
+ghost use Rattle.dine_tellers.specs.Tellers.{AreFresh, CanPay, HaveSent};
 
 use anyhow::{Result, bail};
+use dine_graph::MAX_TEXT_JOBS;
 use dine_link::ChannelLane;
 use dine_plan::{Plan, read_plan};
 use dine_run::{Gathered, SiteOut, order_of, run};
 use dine_site::{Event, EventKind};
-use dine_token::MAX_JOBS;
 use std::alloc::{AllocError, Global};
 use std::sync::Wait;
 use std::thread::Threads;
@@ -44,8 +44,8 @@ const RING: &str = "version = 1\n\
     [[edge]]\nends = [\"ann\", \"bob\"]\n[[edge]]\nends = [\"bob\", \"cyd\"]\n\
     [[edge]]\nends = [\"cyd\", \"dan\"]\n[[edge]]\nends = [\"dan\", \"ann\"]\n";
 
-// What each account has at the start, as many units as a site can send.
-const START: u32 = MAX_JOBS;
+// What each account has at the start, as many units as a site of a text can send.
+const START: u32 = MAX_TEXT_JOBS;
 
 // What each account has at the end, by site, and all of them together.
 #[derive(Drop)]
@@ -65,10 +65,23 @@ fn open_tellers(alloc: Global, plan: &Plan) -> Result<Vec<Teller>, AllocError>
     Ok(tellers)
 }
 
+// Whether each account has what its site sends.
+fn can_pay(plan: &Plan) -> bool
+    ensures { IsTrue result → CanPay plan.now }
+{
+    for site in 0..plan.sites() {
+        if plan.jobs(site) > START {
+            return false;
+        }
+    }
+    true
+}
+
 // Returns the balances: each account has what the site before it sent, and lacks what its own site sent.
 fn books_of(alloc: Global, plan: &Plan, outs: &[SiteOut<Teller>]) -> Result<Books, AllocError>
     requires count { length outs.now ≡ site_count plan.now }
     requires sent { HaveSent plan.now outs.now }
+    requires can_pay { CanPay plan.now }
     ensures { IfOk result (IsBooks plan.now) }
 {
     let mut balances = Vec::new(alloc);
@@ -96,6 +109,9 @@ fn settle<R: Threads + Wait + Copy + Send + 'static>(
         IsWholeOrder (plan_shown plan.now journals) journals settled.2.items) }
     ensures apart { IfOk result (λ settled. NeighboursEatApart plan.now settled.2.items) }
 {
+    if !can_pay(plan) {
+        bail!("a site sends more than its account has");
+    }
     let tellers = open_tellers(alloc, plan)?;
     let Ok(gathered) = run::<ChannelLane, Teller>(rt, alloc, plan, tellers) else {
         bail!("memory or a thread was refused");

@@ -7,7 +7,7 @@ use dine_run::{CallLog, Diner, JobFault};
 use dine_token::Meal;
 use std::alloc::{AllocError, Global};
 
-/// A teller and the number of units that it sent, one at each call. A site has at most 1,000 jobs.
+/// A teller and the number of units that it sent, one at each call.
 #[derive(Drop)]
 pub struct Teller {
     pub log: CallLog,

@@ -107,6 +107,10 @@ fn each_fault_of_a_run_names_its_site(rt: HostRuntime) {
             "dine: run broken at site 7: Lost on link 4294967295\n",
         ),
         (
+            RunCause::Broken(7, SiteFault::LostBell { degree: 63 }),
+            "dine: run broken at site 7: Lost on link 63\n",
+        ),
+        (
             RunCause::Broken(1, SiteFault::NotStarted),
             "dine: run broken at site 1: NotStarted\n",
         ),

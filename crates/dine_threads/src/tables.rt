@@ -8,7 +8,7 @@ use dine_site_thread::Diner;
 use std::alloc::{AllocError, Global};
 
 /// How often the ends of an edge ate with its fork: the number of the edge, from 0 to 511, its ends, the lower site
-/// first, how many meals of each the fork's log holds, at most 1,000, and the value that the fork carries.
+/// first, how many meals of each the fork's log holds, and the value that the fork carries.
 #[derive(Clone, Copy, Debug, PartialEq, Eq)]
 pub struct EdgeRow {
     pub edge: u32,

@@ -1,5 +1,6 @@
 -- The periods and the counts in the contents of a fork stay those of its log.
 use Rattle.std.proofs.Common.{◌≡◌, ◌⊎◌, ℕ, ◌+◌, ◌-◌, ◌<◌, ◌≤◌, true, false, List, [], ◌∷◌, ◌++◌, length, get_or, set, sym, ◌∙◌, ap, subst, inl, inr, arith, vec_capacity}
+use Rattle.dine_token.specs.declared.limits.TheConstants.{MAX_JOBS}
 use Rattle.dine_token.specs.declared.log_entry.Entry.{Entry}
 use Rattle.dine_token.specs.declared.log_entry.Entry.TheVariants.{Meal, Move}
 use Rattle.dine_token.specs.declared.act.Act.{Act}
@@ -17,7 +18,7 @@ use Rattle.dine_token.proofs.Periods.{period, length-periods_of, one_more, last_
 use Rattle.dine_token.proofs.shared.Forks.{IsFork-after_move, IsFork-after_meal, IsEnd-location, fork_has_periods}
 
 -- a fork that was just opened
-pub opened_matches : (fork : Contents) → fork.periods.items ≡ period fork.lower 1 0 ∷ [] → fork.lower < fork.higher → fork.lower_due ≤ 1000 → fork.higher_due ≤ 1000
+pub opened_matches : (fork : Contents) → fork.periods.items ≡ period fork.lower 1 0 ∷ [] → fork.lower < fork.higher → fork.lower_due ≤ MAX_JOBS → fork.higher_due ≤ MAX_JOBS
     → fork.location ≡ fork.lower → fork.dirty ≡ true → fork.lower_meals ≡ 0 → fork.higher_meals ≡ 0 → fork.lower_due + fork.higher_due + 1 ≤ vec_capacity fork.periods
     → fork.value ≤ 1000000 → MatchesLog fork
 opened_matches fork is ordered lower_due higher_due there dirty lower_none higher_none capacity small =

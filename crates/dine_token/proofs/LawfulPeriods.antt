@@ -76,6 +76,7 @@ pub record HasPeriods (start most : ℕ) (log : List Entry) : Type 0 where
   pub is : periods_of start log ≡ front ++ last ∷ []
   pub here : last.site ≡ location_of start log
   pub next : last.first + last.count ≡ meals_of last.site log + 1
+  pub from_one : 1 ≤ last.first
   pub whole : entries_of (periods_of start log) ≡ log
   pub placed : IsPlaced (front ++ last ∷ [])
   pub small : All (λ (p : Period). p.first + p.count ≤ most + 1) front
@@ -87,6 +88,7 @@ start_has_periods start most = record {
   is = refl;
   here = refl;
   next = refl;
+  from_one = omega arith;
   whole = refl;
   placed = placed_start (period start 1 0);
   small = λ i p within. absurd (omega (arith, within));
@@ -113,6 +115,7 @@ meal_has_periods ends due most log site k lawful parts = record {
   is = now;
   here = parts.here ∙ sym (location_of-push_meal ends.0 log site k);
   next = omega (arith, parts.next, more);
+  from_one = parts.from_one;
   whole = ap entries_of now ∙ entries_of-one_more parts.front parts.last ∙ ap (λ (l : List Period). entries_of l ++ Meal parts.last.site (parts.last.first + parts.last.count) ∷ []) (sym parts.is)
       ∙ ap (λ (l : List Entry). l ++ Meal parts.last.site (parts.last.first + parts.last.count) ∷ []) parts.whole
       ∙ ap (λ (s : ℕ). log ++ Meal s (parts.last.first + parts.last.count) ∷ []) (sym eater) ∙ ap (λ (j : ℕ). log ++ Meal site j ∷ []) number;
@@ -150,6 +153,7 @@ move_has_periods ends due most log to ordered lower_small higher_small lawful pa
   is = now;
   here = sym (location_of-push_move ends.0 log to);
   next = omega (arith, meals_of-push_move to log to);
+  from_one = omega arith;
   whole = ap entries_of now ∙ entries_of-opened parts.front parts.last to (meals_of to log + 1)
       ∙ ap (λ (l : List Period). entries_of l ++ Move to ∷ []) (sym parts.is) ∙ ap (λ (l : List Entry). l ++ Move to ∷ []) parts.whole;
   placed = placed_opened parts.front parts.last new parts.placed (fits (at_an_end ends due log before));

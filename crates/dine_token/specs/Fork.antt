@@ -45,8 +45,8 @@ after_meal site k act fork = record fork { log = fork.log ++ Meal site k ∷ [];
 abbrev pub IsDirty : SeenFork → Type 0
 IsDirty fork = is_dirty fork.log ≡ true
 
--- What is true of every fork: the lower end is below the higher, at most 1,000 meals are due to each, the log is
--- lawful, and the value is at most 1,000,000 times one more than the meals of the log.
+-- What is true of every fork: the lower end is below the higher, at most 4,294,967,295 meals are due to each, the log
+-- is lawful, and the value is at most 1,000,000 times one more than the meals of the log.
 pub record IsFork (fork : SeenFork) : Type 0 where
   pub ordered : fork.ends.0 < fork.ends.1
   pub lower_due : fork.due.0 ≤ MAX_JOBS

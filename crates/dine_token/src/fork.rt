@@ -52,8 +52,9 @@ impl Model for Fork {
 
 impl Fork {
     /// Makes the fork of edge `edge` between the sites `lower` and `higher`, which have `lower_due` and `higher_due`
-    /// meals due, each at most 1,000. The fork is at the lower end and dirty, its log is empty, and it carries the
-    /// value `value`, at most 1,000,000. All its memory is allocated here, for each period that the log may get too.
+    /// meals due, each at most 4,294,967,295. The fork is at the lower end and dirty, its log is empty, and it carries
+    /// the value `value`, at most 1,000,000. All its memory is allocated here, for each period that the log may get
+    /// too: 12 bytes for each meal that is due.
     ///
     /// # Errors
     ///
@@ -114,7 +115,7 @@ impl Fork {
         (self.contents.lower, self.contents.higher)
     }
 
-    /// Returns the number of meals that an end has due in all, at most 1,000.
+    /// Returns the number of meals that an end has due in all, at most 4,294,967,295.
     pub fn due_of(&self, end: u32) -> u32
         requires { IsEnd self.now end }
         ensures due { result ≡ due_at self.now.ends self.now.due end }
@@ -166,22 +167,22 @@ impl Fork {
     }
 
     /// Returns the number of entries of the log, at most twice the meals that are due to both ends.
-    pub fn len(&self) -> u32
+    pub fn len(&self) -> u64
         ensures len { result ≡ length self.now.log }
         ensures proper { IsFork self.now }
     {
         let contents = &*self.contents;
-        contents.lower_meals + contents.higher_meals + self.moves()
+        contents.lower_meals as u64 + contents.higher_meals as u64 + self.moves()
     }
 
     /// Returns entry `i` of the log, from 0.
-    pub fn entry(&self, i: u32) -> Entry
+    pub fn entry(&self, i: u64) -> Entry
         requires { i < length self.now.log }
         ensures { slice_get self.now.log i ≡ Some result }
     {
         let place = self.period_with(i);
         let period = self.period(place);
-        let inside = i - self.entries_before(place);
+        let inside = (i - self.entries_before(place)) as u32;
         if place == 0 {
             Entry::Meal {
                 site: period.site,
@@ -198,7 +199,7 @@ impl Fork {
     }
 
     // The place of the period that has entry `i`, by binary search.
-    fn period_with(&self, i: u32) -> u32
+    fn period_with(&self, i: u64) -> u64
         requires { i < length self.now.log }
         ensures within { result < length (periods_of self.now.ends.0 self.now.log) }
         ensures start { length (entries_of (take result (periods_of self.now.ends.0 self.now.log))) ≤ i }
@@ -220,7 +221,7 @@ impl Fork {
 
     // The number of entries of the log before those of the period at this place: the Moves before its own, and the
     // meals of both ends so far, which are one less than the numbers of their next meals.
-    fn entries_before(&self, place: u32) -> u32
+    fn entries_before(&self, place: u64) -> u64
         requires place { place < length (periods_of self.now.ends.0 self.now.log) }
         requires proper { IsFork self.now }
         ensures { result ≡ length (entries_of (take place (periods_of self.now.ends.0 self.now.log))) }
@@ -230,21 +231,21 @@ impl Fork {
         }
         let former = self.period(place - 1);
         let period = self.period(place);
-        place + period.first + former.first + former.count - 3
+        place + period.first as u64 + former.first as u64 + former.count as u64 - 3
     }
 
     /// Returns the number of periods of the log, at least 1: one more than its Moves. The periods give the whole log.
-    pub fn periods(&self) -> u32
+    pub fn periods(&self) -> u64
         ensures count { result ≡ length (periods_of self.now.ends.0 self.now.log) }
         ensures some { 1 ≤ result }
         ensures whole { entries_of (periods_of self.now.ends.0 self.now.log) ≡ self.now.log }
         ensures proper { IsFork self.now }
     {
-        self.contents.periods.len() as u32
+        self.contents.periods.len() as u64
     }
 
     /// Returns period `i` of the log, from 0. Only the first and the last may have no meal.
-    pub fn period(&self, i: u32) -> Period
+    pub fn period(&self, i: u64) -> Period
         requires { i < length (periods_of self.now.ends.0 self.now.log) }
         ensures period { slice_get (periods_of self.now.ends.0 self.now.log) i ≡ Some result }
         ensures bound { result.first + result.count ≤ MAX_JOBS + 1 }
@@ -254,10 +255,11 @@ impl Fork {
     }
 
     /// Returns the number of Moves in the log.
-    pub fn moves(&self) -> u32
-        ensures { result ≡ moves_of self.now.log }
+    pub fn moves(&self) -> u64
+        ensures moves { result ≡ moves_of self.now.log }
+        ensures proper { IsFork self.now }
     {
-        self.contents.periods.len() as u32 - 1
+        self.contents.periods.len() as u64 - 1
     }
 
     // Writes a Move to the other end, which opens a period there. It allocates nothing.

@@ -1,7 +1,6 @@
 -- What a run keeps when a site does an event of its own.
-use Rattle.std.proofs.Common.{◌≡◌, ◌≢◌, ℕ, ◌<◌, ◌≤◌, Bool, true, List, [], ◌∷◌, ◌++◌, length, drop, get_or, slice_set, Option, Some, None, refl, sym, ◌∙◌, ap, subst, inl, inr, arith, append-nil}
-use Rattle.std.specs.List.{find}
-use Rattle.std.proofs.lemmas.Bool.{cases_Bool, cases_eq, cond-true, cond-false, false≢true}
+use Rattle.std.proofs.Common.{◌≡◌, ◌≢◌, ℕ, ◌<◌, ◌≤◌, Bool, true, List, [], ◌∷◌, ◌++◌, length, drop, get_or, slice_set, Option, Some, refl, sym, ◌∙◌, ap, subst, inl, inr, arith, append-nil}
+use Rattle.std.proofs.lemmas.Bool.{cases_eq, false≢true}
 use Rattle.std.proofs.lemmas.List.{drop-append-le}
 use Rattle.std.proofs.lemmas.Option.{same_Some}
 use Rattle.dine_graph.specs.Plan.{SeenPlan, IsPlan, site_count, edges_of}
@@ -22,20 +21,13 @@ use Rattle.dine_rules.proofs.shared.one_place.Placed.{placed}
 use Rattle.dine_rules.proofs.shared.one_site.Shapes.{may_within}
 use Rattle.dine_site.specs.NextEvent.{may_by_itself, own_kinds}
 use Rattle.dine_site.specs.Standing.{all_places}
+use Rattle.dine_rules.proofs.shared.lists.Finds.{found_passes}
 use Rattle.dine_waking.specs.Sleeping.{Coming, letters_coming_at}
 use Rattle.dine_waking.specs.Runs.{Acts, Doing, GoesOn, HasToRing, Run, Sleeps, HasToTake, Thread, HasToWake, IsToBeWoken, doing_after, places_heard, rings_left, thread_of}
 use Rattle.dine_waking.proofs.Queues.{put_elsewhere, put_here, put_keeps_taken, queue_away, queue_from, queue_here, queue_stays, state_elsewhere}
 use Rattle.dine_waking.proofs.Bells.{Fits, InLink, IsPlain, IsUnrung, KeepsBell, RunKeeps, as_many, each_site, link_stays, quiet_change, site_stays, thread_elsewhere, thread_here, waking_stays}
 
 -- ---- the event
-
--- what is found passes the test
-pub found_passes : {X : Type 0} (test : X → Bool) (xs : List X) (x : X) → find test xs ≡ Some x → test x ≡ true
-found_passes test [] x h = absurd (let e : None ≡ Some x = h in cc)
-found_passes test (y ∷ xs) x h = elim (cases_Bool (test y)) [
-  | inl passes ↦ let same : y ≡ x = (let e : Some y ≡ Some x = sym (cond-true (test y) (Some y) (find test xs) passes) ∙ h in cc) in ap test (sym same) ∙ passes
-  | inr fails ↦ found_passes test xs x (sym (cond-false (test y) (Some y) (find test xs) fails) ∙ h)
-]
 
 -- it has to wake nobody yet
 plain_after : (kind : EventKind) → IsPlain (doing_after kind)

@@ -44,11 +44,6 @@ asked door true is busy = record {
 }
 asked door false is busy = record { off = λ h. inl (refl, is); silent = λ h. absurd (true≢false (sym h)) }
 
-off_woken : (thinker : Thinker) → is_off (woken thinker) ≡ true → is_off thinker ≡ true
-off_woken Busy h = h
-off_woken Thinks h = h
-off_woken Sleeps h = absurd (true≢false (sym h))
-
 not_asleep_woken : (thinker : Thinker) → is_asleep (woken thinker) ≡ false
 not_asleep_woken Busy = refl
 not_asleep_woken Thinks = refl

@@ -22,7 +22,7 @@ use Rattle.dine_waking.specs.Manners.{IsInManner, can_all_be_put_off, finds_no_r
 use Rattle.dine_waking.specs.Runs.{Acts, ByActing, ByDoorbell, ByHearing, ByRinging, BySleeping, ByTaking, ByWaking, Doing, FallsAsleep, GoesOn, HasToRing, HasToWake, HearsRing, IsCalled, IsToBeWoken, RingsBell, Run, HasToTake, Sleeps, TakesLetter, Thread, ThreadStep, WakesThread, after_ringing, doing_after, doing_rung, fresh_thread, is_woken_by, places_heard, number_there, rings_for, rings_left, thread_after_ring, thread_of}
 use Rattle.dine_waking.proofs.Queues.{put_keeps_taken, state_here, taken_elsewhere, taken_here}
 use Rattle.dine_waking.proofs.Bells.{RunKeeps, thread_elsewhere, thread_here}
-use Rattle.dine_waking.proofs.Acting.{found_passes}
+use Rattle.dine_rules.proofs.shared.lists.Finds.{found_passes}
 use Rattle.dine_waking.proofs.Ringing.{heard_ringer, heard_rung}
 
 -- ---- rings

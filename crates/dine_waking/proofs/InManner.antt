@@ -13,7 +13,7 @@ use Rattle.dine_waking.specs.Manners.{IsInManner, MannerStep, finds_no_ring, has
 use Rattle.dine_waking.specs.Runs.{Acts, ByActing, ByDoorbell, ByHearing, ByRinging, BySleeping, ByTaking, ByWaking, Doing, GoesOn, RunHasEnded, HearsRing, Run, HasToTake, ThreadStep, doing_after, may_think_on, takes_letters, thread_of}
 use Rattle.dine_waking.proofs.Queues.{event_happens}
 use Rattle.dine_waking.proofs.Bells.{RunKeeps}
-use Rattle.dine_waking.proofs.Acting.{found_passes}
+use Rattle.dine_rules.proofs.shared.lists.Finds.{found_passes}
 use Rattle.dine_waking.proofs.Progress.{step_or_end}
 
 begin_or_not : (kind : EventKind) → (kind ≡ event.Begin) ⊎ (kind ≡ event.Begin → ⊥)

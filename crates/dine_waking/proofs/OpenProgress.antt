@@ -17,7 +17,7 @@ use Rattle.dine_waking.specs.Doors as at_door
 use Rattle.dine_waking.specs.OpenRuns.{DueStep, IsAtRest, LeadsByOpenSteps, OpenRun, ToAct, ToAsk, ToHear, ToHearDoorbell, ToRing, ToRingDoorbell, ToSleep, ToTake, ToWake, first_open_run}
 use Rattle.dine_waking.specs.Resting.{AllRestWell}
 use Rattle.dine_waking.specs.Runs.{Doing, GoesOn, HasToRing, HasToTake, HasToWake, IsToBeWoken, Run, RunHasEnded, Sleeps, Thread, after_ringing, doing_after, is_woken_by, may_think_on, number_there, rings_for, takes_letters, thread_after_ring, thread_of}
-use Rattle.dine_waking.proofs.Acting.{found_passes}
+use Rattle.dine_rules.proofs.shared.lists.Finds.{found_passes}
 use Rattle.dine_waking.proofs.Agreement.{Agrees, busy_on, is_asleep, is_off, not_asleep}
 use Rattle.dine_waking.proofs.Asleep.{all_or_one}
 use Rattle.dine_waking.proofs.Bells.{Fits, IsUnrung}

@@ -29,7 +29,7 @@ use Rattle.dine_waking.proofs.Letters.{first_at}
 use Rattle.dine_waking.proofs.Queues.{event_happens, take_happens}
 use Rattle.dine_waking.proofs.Asleep.{all_asleep_is_complete, all_or_one}
 use Rattle.dine_waking.proofs.Bells.{Fits, InLink, IsUnrung, KeepsBell, RunKeeps}
-use Rattle.dine_waking.proofs.Acting.{found_passes}
+use Rattle.dine_rules.proofs.shared.lists.Finds.{found_passes}
 use Rattle.dine_waking.proofs.Waking.{leads_back}
 
 -- ---- the sites of a complete world have finished

@@ -2,6 +2,8 @@
 use Rattle.std.proofs.Common.{◌≡◌, ◌≢◌, ℕ, zero, suc, ◌+◌, ◌*◌, ◌-◌, ◌<◌, ◌≤◌, ◌&&◌, ◌||◌, not, nat_lt, Bool, true, false, IsTrue, List, [], ◌∷◌, get_or, replicate, codes, Some, refl, sym, ◌∙◌, ap, subst, arith}
 use Rattle.std.proofs.lemmas.Bool.{cond-true, lt-ltb}
 use Rattle.std.proofs.lemmas.List.{get_or-replicate, length-replicate}
+use Rattle.dine_token.specs.declared.limits.TheConstants.{MAX_JOBS, MAX_NUMBER}
+use Rattle.dine_graph.specs.declared.limits.TheConstants.{MAX_TURNS}
 use Rattle.dine_graph.specs.Plan.{IsPlan, SeenJob, SeenPlan, hi_of, is_name, job_count, job_of, lo_of, name_of, no_job, value_of}
 use Rattle.dine_token.specs.Values.{IsAct}
 use Rattle.dine_rules.specs.declared.events.EventKind.TheVariants as event
@@ -134,7 +136,7 @@ eats_on_by_one_check k (suc left) n all =
 all_same : (n : ℕ) (job : SeenJob) (i : ℕ) → i < n → get_or (replicate n job) i no_job ≡ job
 all_same n job i within = get_or-replicate n i job no_job within
 
-module _ (a b : ℕ) (few_a : a ≤ 1000) (few_b : b ≤ 1000) where
+module _ (a b : ℕ) (few_a : a ≤ MAX_JOBS) (few_b : b ≤ MAX_JOBS) where
   abbrev both : SeenPlan
   both = two_sites a b
 
@@ -144,7 +146,7 @@ module _ (a b : ℕ) (few_a : a ≤ 1000) (few_b : b ≤ 1000) where
   jobs_are (suc zero) is_site k some within = all_same b named_job (k - 1) (omega (arith, length-replicate b named_job))
   jobs_are (suc (suc s)) is_site k some within = absurd (omega arith)
 
-  few : (s : ℕ) → s < 2 → job_count both s ≤ 1000
+  few : (s : ℕ) → s < 2 → job_count both s ≤ MAX_JOBS
   few zero is_site = omega (arith, length-replicate a named_job)
   few (suc zero) is_site = omega (arith, length-replicate b named_job)
   few (suc (suc s)) is_site = absurd (omega arith)
@@ -172,7 +174,7 @@ module _ (a b : ℕ) (few_a : a ≤ 1000) (few_b : b ≤ 1000) where
     few_sites = omega arith;
     few_edges = omega arith;
     few_jobs = few;
-    few_turns = λ s k is_site some within. subst (λ (job : SeenJob). job.turns ≤ 1000000) (sym (jobs_are s is_site k some within)) (omega arith);
+    few_turns = λ s k is_site some within. subst (λ (job : SeenJob). job.turns ≤ MAX_TURNS) (sym (jobs_are s is_site k some within)) (omega arith);
     small_acts = λ s k is_site some within. subst (λ (job : SeenJob). IsAct job.act) (sym (jobs_are s is_site k some within)) (omega arith);
     named = names;
     jobs_named = λ s k is_site some within. subst (λ (job : SeenJob). IsTrue (is_name job.name)) (sym (jobs_are s is_site k some within)) refl;
@@ -181,5 +183,5 @@ module _ (a b : ℕ) (few_a : a ≤ 1000) (few_b : b ≤ 1000) where
     within = one_edge (λ e. hi_of both e < 2) (omega arith);
     edges_differ = λ e f less is_edge. absurd (omega arith);
     valued = refl;
-    small_values = one_edge (λ e. value_of both e ≤ 1000000) (omega arith);
+    small_values = one_edge (λ e. value_of both e ≤ MAX_NUMBER) (omega arith);
   }

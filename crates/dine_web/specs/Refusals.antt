@@ -5,8 +5,10 @@ use Rattle.core.specs.Fmt.Cut.{IsTextOrCut}
 use Rattle.std.specs.Str.{IsUtf8}
 use Rattle.dine_graph.specs.Plan.{SeenPlan}
 use Rattle.dine_draft.specs.declared.plan_fault.PlanFault.{PlanFault}
-use Rattle.dine_draft.specs.declared.plan_fault.PlanFault.TheVariants.{NotToml, BadName, SiteTwice, TooManyJobs, TurnsTooLarge, UnknownEnd, Loop, EdgeTwice, TwoActs, ActTooLarge, ValueTooLarge, UnknownPolicy, Memory}
-use Rattle.dine_draft.specs.Fault.{number_of_fault, plan_fault_words}
+use Rattle.dine_draft.specs.declared.plan_fault.PlanFault.TheVariants.{NotToml, Memory}
+use Rattle.dine_draft.specs.declared.plan_fault.About.{About}
+use Rattle.dine_draft.specs.declared.plan_fault.About.TheVariants as about
+use Rattle.dine_draft.specs.Fault.{about_of, number_of_fault, plan_fault_words}
 use Rattle.dine_reader.specs.PlanOf.{IsPlanOf}
 use Rattle.dine_reader.specs.RefusalTests.{first_fault}
 use Rattle.dine_web.specs.declared.refusals.Refusal.{Refusal}
@@ -43,25 +45,16 @@ at_site site = codes "{\"site\":" ++ decimal site ++ codes "}"
 abbrev pub at_edge : ℕ → List ℕ
 at_edge edge = codes "{\"edge\":" ++ decimal edge ++ codes "}"
 
--- what a cause names
-abbrev pub named_text : PlanFault → List ℕ
-named_text (BadName site) = at_site site
-named_text (SiteTwice site) = at_site site
-named_text (TooManyJobs site) = at_site site
-named_text (TurnsTooLarge site) = at_site site
-named_text (TwoActs site) = at_site site
-named_text (ActTooLarge site) = at_site site
-named_text (UnknownPolicy site) = at_site site
-named_text (UnknownEnd edge) = at_edge edge
-named_text (Loop edge) = at_edge edge
-named_text (EdgeTwice edge) = at_edge edge
-named_text (ValueTooLarge edge) = at_edge edge
+-- the site or the edge that a cause is about, if it is about one
+abbrev pub named_text : About → List ℕ
+named_text (about.Site site) = at_site site
+named_text (about.Edge edge) = at_edge edge
 named_text _ = codes "{}"
 
 -- a refusal as JSON
 abbrev pub refusal_text : Refusal → List ℕ
 refusal_text (NoPlan fault) = codes "{\"refused\":{\"line\":\"plan refused: " ++ plan_fault_words fault ++ codes "\",\"fault\":"
-    ++ decimal (number_of_fault fault) ++ codes ",\"at\":" ++ named_text fault ++ codes "}}"
+    ++ decimal (number_of_fault fault) ++ codes ",\"at\":" ++ named_text (about_of fault) ++ codes "}}"
 refusal_text OutOfMemory = codes "{\"refused\":{\"line\":\"out of memory\"}}"
 refusal_text Closed = codes "{\"refused\":{\"line\":\"the handle is closed\"}}"
 refusal_text OpenAlready = codes "{\"refused\":{\"line\":\"the handle is open\"}}"

@@ -1,4 +1,5 @@
 //! Refusals as JSON.
+use dine_draft::About;
 use dine_reader::PlanFault;
 use std::alloc::AllocError;
 use std::fmt;
@@ -39,7 +40,9 @@ impl fmt::Display for Refusal {
         match self {
             Refusal::NoPlan(fault) => {
                 let number = fault.number();
-                let named = Named { fault: *fault };
+                let named = Named {
+                    about: fault.about(),
+                };
                 write!(
                     f,
                     "{{\"refused\":{{\"line\":\"plan refused: {fault}\",\"fault\":{number},\"at\":{named}}}}}"
@@ -56,29 +59,20 @@ impl fmt::Display for Refusal {
 // The site or the edge that a cause names, if it names one.
 #[derive(Clone, Copy)]
 struct Named {
-    fault: PlanFault,
+    about: About,
 }
 
 impl fmt::Display for Named {
     ghost use Rattle.std.specs.Prelude.{Some};
     ghost use Rattle.dine_web.specs.Refusals.{named_text};
 
-    ghost output = { λ named. Some (named_text named.fault) };
+    ghost output = { λ named. Some (named_text named.about) };
 
     fn fmt<W: fmt::Write>(&self, f: &mut fmt::Formatter<W>) -> fmt::Result {
-        match self.fault {
-            PlanFault::BadName(site)
-            | PlanFault::SiteTwice(site)
-            | PlanFault::TooManyJobs(site)
-            | PlanFault::TurnsTooLarge(site)
-            | PlanFault::TwoActs(site)
-            | PlanFault::ActTooLarge(site)
-            | PlanFault::UnknownPolicy(site) => write!(f, "{{\"site\":{site}}}"),
-            PlanFault::UnknownEnd(edge)
-            | PlanFault::Loop(edge)
-            | PlanFault::EdgeTwice(edge)
-            | PlanFault::ValueTooLarge(edge) => write!(f, "{{\"edge\":{edge}}}"),
-            _ => f.write_str("{}"),
+        match self.about {
+            About::Site(site) => write!(f, "{{\"site\":{site}}}"),
+            About::Edge(edge) => write!(f, "{{\"edge\":{edge}}}"),
+            About::Counts | About::Text => f.write_str("{}"),
         }
     }
 }

@@ -2,6 +2,7 @@
 use Rattle.std.proofs.Common.{◌≡◌, ◌⊎◌, ℕ, zero, suc, ◌+◌, ◌-◌, ◌<◌, ◌≤◌, ◌*◌, ◌^◌, true, List, [], ◌∷◌, ◌++◌, length, refl, sym, ◌∙◌, ap, subst, inl, inr, arith, append-nil}
 use Rattle.std.proofs.lemmas.Bool.{eq-eqb, ne_eqb}
 use Rattle.std.proofs.lemmas.List.{length-append}
+use Rattle.dine_token.specs.declared.limits.TheConstants.{MAX_NUMBER}
 use Rattle.dine_token.specs.declared.act.Act.{Act}
 use Rattle.dine_token.specs.declared.act.Act.TheVariants.{Add, Set}
 use Rattle.dine_token.specs.declared.log_entry.Entry.{Entry}
@@ -17,7 +18,7 @@ use Rattle.dine_rules.specs.Holdings.{meals_from}
 use Rattle.dine_rules.specs.Values.{after_meals}
 use Rattle.dine_rules.proofs.shared.one_place.Hands.{with_meals, with_meals-more, with_meals-none, meals_of-with_meals, location_of-with_meals}
 use Rattle.dine_wire.specs.Arrivals.{IsOfPlan, MayCarryOn, carried_on, eaten_on, meals_here}
-use Rattle.dine_wire.specs.Notes.{fork_note}
+use Rattle.dine_wire.specs.Notes.{fork_note, moves_noted}
 use Rattle.dine_wire.specs.declared.note.ForkNote.{ForkNote}
 
 -- ---- the meals
@@ -94,7 +95,7 @@ moves_of-moved s first n to log =
 
 -- the note of the fork that is carried on
 pub fork_note-carried_on : (plan : SeenPlan) (fork : SeenFork) (n : ℕ) → IsFork fork → IsEnd fork (location fork)
-    → fork_note (carried_on plan fork n) ≡ record { moves = moves_of fork.log + 1; ate = meals_here fork + n; value = after_meals plan (location fork) (meals_here fork + 1) n fork.value }
+    → fork_note (carried_on plan fork n) ≡ record { moves = moves_noted (moves_of fork.log + 1); ate = meals_here fork + n; value = after_meals plan (location fork) (meals_here fork + 1) n fork.value }
 fork_note-carried_on plan fork n is end =
     let s = location fork in
     let to = other_end fork s in
@@ -104,12 +105,12 @@ fork_note-carried_on plan fork n is end =
     let ate : meals_of (other_end fork (location (carried_on plan fork n))) (carried_on plan fork n).log ≡ meals_here fork + n =
     ap (λ (e : ℕ). meals_of e (carried_on plan fork n).log) sender ∙ meals_of-push_move s log to ∙ meals_of-with_meals s n fork.log in
     let value : ℕ = after_meals plan s (meals_here fork + 1) n fork.value in
-    ap (λ (m : ℕ). record { moves = m; ate = meals_of (other_end fork (location (carried_on plan fork n))) (carried_on plan fork n).log; value = value }) (moves_of-moved s (meals_here fork + 1) n to fork.log)
-    ∙ ap (λ (a : ℕ). record { moves = moves_of fork.log + 1; ate = a; value = value }) ate
+    ap (λ (m : ℕ). record { moves = moves_noted m; ate = meals_of (other_end fork (location (carried_on plan fork n))) (carried_on plan fork n).log; value = value }) (moves_of-moved s (meals_here fork + 1) n to fork.log)
+    ∙ ap (λ (a : ℕ). record { moves = moves_noted (moves_of fork.log + 1); ate = a; value = value }) ate
 
 -- what the note of the fork that is carried on reports
 pub record Reported (plan : SeenPlan) (fork : SeenFork) (n : ℕ) (note : ForkNote) : Type 0 where
-  pub moves : note.moves ≡ moves_of fork.log + 1
+  pub moves : note.moves ≡ moves_noted (moves_of fork.log + 1)
   pub ate : note.ate ≡ meals_here fork + n
   pub value : note.value ≡ after_meals plan (location fork) (meals_here fork + 1) n fork.value
 
@@ -131,7 +132,7 @@ MayMove-eaten_on plan fork n is may = record {
 -- ---- limits of the value and of the numbers
 
 -- a value that has space for m - i meals has it for one less after one of them
-pub act_fits : (act : Act) (value m i : ℕ) → IsAct act → i < m → value + 1000000 * (m - i) < 2 ^ 64 → value_after_act act value + 1000000 * (m - (i + 1)) < 2 ^ 64
+pub act_fits : (act : Act) (value m i : ℕ) → IsAct act → i < m → value + MAX_NUMBER * (m - i) < 2 ^ 64 → value_after_act act value + MAX_NUMBER * (m - (i + 1)) < 2 ^ 64
 act_fits (Add amount) value m i small less fits = omega (arith, small, less, fits)
 act_fits (Set amount) value m i small less fits = omega (arith, small, less, fits)
 

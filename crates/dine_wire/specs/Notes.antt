@@ -1,5 +1,5 @@
 -- What the bytes of a letter report, and the bytes.
-use Rattle.std.specs.Prelude.{ℕ, ◌<◌, ◌^◌, List, ◌∷◌, ◌++◌}
+use Rattle.std.specs.Prelude.{ℕ, ◌<◌, ◌^◌, ◌%◌, List, ◌∷◌, ◌++◌}
 use Rattle.std.specs.Int.{to_le_bytes, w32, w64}
 use Rattle.dine_token.specs.Fork.{SeenFork, location, other_end}
 use Rattle.dine_token.specs.Log.{meals_of, moves_of}
@@ -10,10 +10,15 @@ use Rattle.dine_wire.specs.declared.note.Report.{Report}
 use Rattle.dine_wire.specs.declared.note.Report.TheVariants.{Fork, Request, Done, Close}
 use Rattle.dine_wire.specs.declared.note.ForkNote.{ForkNote}
 
--- what its sender did with a fork that was sent: the number of Moves in its log, the number of the sender's meals in
--- it, and its value
+-- A number of Moves as a note has it, in four bytes: modulo 2^32. Whoever gets the note knows the number itself, since
+-- it is one more than that of the fork that was kept.
+abbrev pub moves_noted : ℕ → ℕ
+moves_noted moves = moves % 2 ^ 32
+
+-- what its sender did with a fork that was sent: the number of Moves in its log, modulo 2^32, the number of the
+-- sender's meals in it, and its value
 abbrev pub fork_note : SeenFork → ForkNote
-fork_note fork = record { moves = moves_of fork.log; ate = meals_of (other_end fork (location fork)) fork.log; value = fork.value }
+fork_note fork = record { moves = moves_noted (moves_of fork.log); ate = meals_of (other_end fork (location fork)) fork.log; value = fork.value }
 
 -- what the bytes of a letter report of it, beside its edge
 abbrev pub report_of : Letter → Report

@@ -9,9 +9,9 @@ ghost use Rattle.dine_graph.specs.Plan.{IsPlan, edge_count, job_count, site_coun
 ghost use Rattle.dine_rules.specs.Values.{after_meals};
 ghost use Rattle.dine_rules.specs.Steps.{opened_fork};
 ghost use Rattle.dine_wire.specs.Arrivals.{CarriesOn, DoesNotArrive, IsOfPlan, MayCarryOn, carried_on, meals_here};
-ghost use Rattle.dine_wire.specs.Notes.{fork_note};
+ghost use Rattle.dine_wire.specs.Notes.{fork_note, moves_noted};
 
-use crate::note::{ForkNote, other_end};
+use crate::note::{ForkNote, moves_noted, other_end};
 use crate::wire_fault::WireFault;
 use dine_graph::Plan;
 use dine_token::{Act, Fork, Held, Meal};
@@ -98,12 +98,12 @@ fn meals_here(fork: &Fork) -> u32
     fork.meals_of(fork.at())
 }
 
-// Whether the number is one more than the number of Moves of the fork.
+// Whether a note has this number of Moves after one more Move of the fork.
 fn is_moved_once(fork: &Fork, moves: u32) -> bool
-    ensures is { result ≡ true → moves ≡ moves_of fork.now.log + 1 }
-    ensures is_not { moves ≡ moves_of fork.now.log + 1 → result ≡ true }
+    ensures is { result ≡ true → moves ≡ moves_noted (moves_of fork.now.log + 1) }
+    ensures is_not { moves ≡ moves_noted (moves_of fork.now.log + 1) → result ≡ true }
 {
-    0 < moves && moves - 1 == fork.moves()
+    moves == moves_noted(fork.moves() + 1)
 }
 
 fn is_of_plan(plan: &Plan, fork: &Fork) -> bool
@@ -141,21 +141,20 @@ fn value_after(plan: &Plan, fork: &Fork, meals: u32) -> u64
     ensures { result ≡ after_meals plan.now (location fork.now) (meals_here fork.now + 1) meals fork.now.value }
 {
     let site = fork.at();
-    value_of(plan, site, fork.meals_of(site) + 1, meals, fork.value())
+    value_of(plan, site, fork.meals_of(site), meals, fork.value())
 }
 
-// The value after these meals of the site, from `first` on.
-fn value_of(plan: &Plan, site: u32, first: u32, meals: u32, value: u64) -> u64
+// The value after the next meals of the site, which ate `ate` times before.
+fn value_of(plan: &Plan, site: u32, ate: u32, meals: u32, value: u64) -> u64
     requires site { site < site_count plan.now }
-    requires from_one { 1 ≤ first }
-    requires within { first + meals ≤ job_count plan.now site + 1 }
-    requires few { first + meals ≤ MAX_JOBS + 1 }
+    requires within { ate + meals ≤ job_count plan.now site }
+    requires few { ate + meals ≤ MAX_JOBS }
     requires bounded { value + MAX_NUMBER * meals < 2 ^ 64 }
-    ensures { result ≡ after_meals plan.now site first meals value }
+    ensures { result ≡ after_meals plan.now site (ate + 1) meals value }
 {
     let mut value = value;
     for i in 0..meals {
-        value = after_act(plan.job(site, first + i).act, value);
+        value = after_act(plan.job(site, ate + 1 + i).act, value);
     }
     value
 }
@@ -183,12 +182,13 @@ fn carry_on(plan: &Plan, fork: Fork, meals: u32, hands: Vec<Held>) -> Fork
 {
     let site = fork.at();
     let to = other_end(&fork, site);
-    let first = fork.meals_of(site) + 1;
+    let ate = fork.meals_of(site);
     let mut fork = fork;
     let mut hands = hands;
     for i in 0..meals {
-        let act = plan.job(site, first + i).act;
-        (fork, hands) = eat(fork, site, first + i, act, hands);
+        let k = ate + 1 + i;
+        let act = plan.job(site, k).act;
+        (fork, hands) = eat(fork, site, k, act, hands);
     }
     hands.destroy_empty();
     Held::take(fork).give(to)

@@ -1,7 +1,7 @@
 //! What the bytes of a letter report.
 ghost use Rattle.std.specs.Prelude.{◌≡◌};
 ghost use Rattle.dine_token.specs.Fork.{SeenFork, other_end};
-ghost use Rattle.dine_wire.specs.Notes.{fork_note, report_of};
+ghost use Rattle.dine_wire.specs.Notes.{fork_note, moves_noted, report_of};
 
 use dine_rules::Letter;
 use dine_token::Fork;
@@ -31,7 +31,7 @@ pub enum Report {
 /// What its sender did with a fork.
 #[derive(Clone, Copy, Debug, PartialEq, Eq)]
 pub struct ForkNote {
-    /// The number of Moves in its log, the one to the receiver included.
+    /// The number of Moves in its log, the one to the receiver included, modulo 2^32.
     pub moves: u32,
     /// The number of meals of the sender in its log.
     pub ate: u32,
@@ -58,10 +58,17 @@ fn fork_note(fork: &Fork) -> ForkNote
 {
     let sender = other_end(fork, fork.at());
     ForkNote {
-        moves: fork.moves(),
+        moves: moves_noted(fork.moves()),
         ate: fork.meals_of(sender),
         value: fork.value(),
     }
+}
+
+/// Returns a number of Moves as a note has it, in four bytes: modulo 2^32.
+pub(crate) fn moves_noted(moves: u64) -> u32
+    ensures { result ≡ moves_noted moves }
+{
+    (moves % 4_294_967_296) as u32
 }
 
 /// Returns the end of the fork that is not this one.

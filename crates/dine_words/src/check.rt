@@ -19,19 +19,19 @@ pub fn check_text(alloc: Global, plan: &Plan) -> Result<String, AllocError>
 }
 
 // Adds the line with these numbers of sites, edges and jobs to the text.
-fn push_sizes(text: &mut String, sites: u32, edges: u32, jobs: u32) -> Result<(), AllocError>
+fn push_sizes(text: &mut String, sites: u32, edges: u32, jobs: u64) -> Result<(), AllocError>
     ensures { OnOk result (string_bytes text.new ≡ string_bytes text.old ++ sizes_line sites edges jobs) }
 {
     writeln!(text, "ok: {sites} sites, {edges} edges, {jobs} jobs")
 }
 
 // The number of jobs of all sites.
-fn job_total(plan: &Plan) -> u32
+fn job_total(plan: &Plan) -> u64
     ensures { result ≡ job_total plan.now }
 {
-    let mut total = 0;
+    let mut total = 0u64;
     for site in 0..plan.sites() {
-        total += plan.jobs(site);
+        total += u64::from(plan.jobs(site));
     }
     total
 }

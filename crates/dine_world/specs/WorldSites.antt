@@ -1,6 +1,6 @@
 -- A site of the world, with its meal, and the links around it. Public clauses use these definitions only by
 -- `IsWorldOf`.
-use Rattle.std.specs.Prelude.{◌≡◌, ℕ, ◌&&◌, nat_lt, Bool, true, List, [], map, length, slice_get, slice_index_or, Option, Some, None, is_some, option_and_then, if◌then◌else◌}
+use Rattle.std.specs.Prelude.{◌≡◌, ℕ, ◌&&◌, Bool, List, [], map, slice_get, slice_index_or, Option, Some, None, is_some, option_and_then, if◌then◌else◌}
 use Rattle.dine_token.specs.Meal.{SeenMeal}
 use Rattle.dine_graph.specs.Plan.{SeenPlan, SeenJob, jobs_of}
 use Rattle.dine_rules.specs.declared.letters.Letter.{Letter}
@@ -8,9 +8,10 @@ use Rattle.dine_rules.specs.declared.events.EventKind.{EventKind}
 use Rattle.dine_rules.specs.declared.events.EventKind.TheVariants as event
 use Rattle.dine_world.specs.declared.world.sites.WorldSite.{WorldSite}
 use Rattle.dine_rules.specs.Local.{LocalState, is_eating}
-use Rattle.dine_rules.specs.Steps.{Shape, Takes, Puts, Alone, shape_of}
+use Rattle.dine_rules.specs.Steps.{shape_of}
 use Rattle.dine_site.specs.Core.{SeenCore, Refines, forks_in_hand}
-use Rattle.dine_site.specs.Places.{place_at, can_give, can_ask, can_hunger, can_quit, can_begin, can_say_done, can_close}
+use Rattle.dine_site.specs.NextEvent.{has_place, passes}
+use Rattle.dine_site.specs.Places.{place_at}
 use Rattle.dine_site.specs.LinkNumbers.{link_to}
 use Rattle.dine_site.specs.Standing.{all_places}
 
@@ -22,23 +23,10 @@ letters_in links n = slice_index_or links n []
 abbrev pub next_in : List (List Letter) → SeenCore → ℕ → Option Letter
 next_in links core i = option_and_then (λ (letters : List Letter). slice_get letters 0) (slice_get links (link_to core.site (place_at core i)))
 
--- the place of an event of this shape is one of the site's
-abbrev pub has_place : SeenCore → Shape → Bool
-has_place core (Takes i) = nat_lt i (length core.places)
-has_place core (Puts i) = nat_lt i (length core.places)
-has_place core Alone = true
-
 -- what each event needs besides its place: a Take needs a letter, and each other event passes the test of its core
 abbrev pub can_there : List (List Letter) → SeenCore → EventKind → Bool
 can_there links core (event.Take i) = is_some (next_in links core i)
-can_there links core (event.Give i) = can_give core i
-can_there links core event.End = is_eating core.phase
-can_there links core event.Begin = can_begin core
-can_there links core event.Quit = can_quit core
-can_there links core event.Hungry = can_hunger core
-can_there links core (event.Ask i) = can_ask core i
-can_there links core (event.Done i) = can_say_done core i
-can_there links core (event.Close i) = can_close core i
+can_there links core kind = passes core kind
 
 -- the site can do the event: its place is there, and what it needs
 abbrev pub can_do : List (List Letter) → SeenCore → EventKind → Bool

@@ -231,13 +231,8 @@ fn refuses_names_and_sites(rt: HostRuntime) {
     let mut plan = PlanBuilder::open(rt.alloc());
     builds(&rt, rt.alloc(), &plan, "8 NoSite");
     add_site(&rt, &mut plan, "a", 1_000);
-    for (name, jobs, want) in [
-        ("b", 1_001, "10 TooManyJobs at site 1"),
-        ("a", u32::MAX, "7 SiteTwice at site 2"),
-    ] {
-        add_site(&rt, &mut plan, name, jobs);
-        builds(&rt, rt.alloc(), &plan, want);
-    }
+    add_site(&rt, &mut plan, "a", u32::MAX);
+    builds(&rt, rt.alloc(), &plan, "7 SiteTwice at site 1");
     refuses_names(&rt, rt.alloc());
     let many = wide(&rt, rt.alloc(), 65, false);
     builds(&rt, rt.alloc(), &many, "9 TooManySites");

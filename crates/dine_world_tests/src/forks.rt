@@ -70,6 +70,7 @@ fn may_eat(fork: &Fork, site: u32, k: u32) -> bool
     is_end(fork, site)
         && fork.at() == site
         && k <= fork.due_of(site)
+        && fork.meals_of(site) < k
         && fork.meals_of(site) + 1 == k
 }
 

@@ -9,6 +9,8 @@ mod builders;
 #[cfg(test)]
 mod forks;
 #[cfg(test)]
+mod many_jobs;
+#[cfg(test)]
 mod plans;
 #[cfg(test)]
 mod sets;

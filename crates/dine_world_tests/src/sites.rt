@@ -173,7 +173,7 @@ fn report_of(rt: &impl Abort, core: &SiteCore, i: u32) -> Report {
 }
 
 // Returns the kind of a letter, its edge if it has one, and the length of the log of its fork.
-fn letter_in_short(letter: &Letter) -> (LetterKind, Option<u32>, u32) {
+fn letter_in_short(letter: &Letter) -> (LetterKind, Option<u32>, u64) {
     match letter {
         Letter::Fork(fork) => (LetterKind::Fork, Some(fork.edge()), fork.len()),
         Letter::Request(token) => (LetterKind::Request, Some(token.edge()), 0),

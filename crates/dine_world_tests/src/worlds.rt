@@ -110,7 +110,7 @@ fn opened(rt: &impl Abort, alloc: Global, plan: &Plan) -> World {
     World::open(alloc, plan).expect(rt, "memory")
 }
 
-fn entry_at(rt: &impl Abort, fork: &Fork, i: u32) -> Entry {
+fn entry_at(rt: &impl Abort, fork: &Fork, i: u64) -> Entry {
     holds(rt, i < fork.len());
     fork.entry(i)
 }

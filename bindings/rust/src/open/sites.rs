@@ -10,14 +10,10 @@ use super::lock;
 use super::waiting::Waiter;
 use super::OpenTable;
 use crate::table::WorkerId;
-use crate::{Event, Kind, Result, Site, KIND_AT, LETTER_MAX};
+use crate::{Event, Kind, Result, Site, LETTER_MAX};
 use std::collections::VecDeque;
 use std::sync::atomic::{AtomicBool, AtomicU32, Ordering};
 use std::sync::{Arc, Mutex};
-
-// The kinds of letters.
-const FORK: u8 = 1;
-const REQUEST: u8 = 2;
 
 // What there is of a place at any time: its edge, the worker at the other end, and the place of the edge there.
 pub(super) struct Place {
@@ -27,10 +23,29 @@ pub(super) struct Place {
     pub id: WorkerId,
 }
 
-// A letter on its way, with the place at which it arrives.
-struct Post<T> {
-    letter: [u8; LETTER_MAX],
+// A letter with its length.
+#[derive(Clone, Copy, Default)]
+struct Letter {
+    bytes: [u8; LETTER_MAX],
     len: u8,
+}
+
+impl Letter {
+    fn of(letter: &[u8]) -> Letter {
+        let mut bytes = [0; LETTER_MAX];
+        bytes[..letter.len()].copy_from_slice(letter);
+        Letter { bytes, len: letter.len() as u8 }
+    }
+
+    fn bytes(&self) -> &[u8] {
+        &self.bytes[..usize::from(self.len)]
+    }
+}
+
+// A letter on its way, with the event that put it, and the place at which it arrives.
+struct Post<T> {
+    letter: Letter,
+    put_by: Kind,
     place: u8,
     // Nobody waits at the worker that asked, so nobody can be woken to ask again.
     is_urgent: bool,
@@ -51,7 +66,7 @@ pub(super) struct Seat<T, S> {
 // A request that is here and not taken yet.
 #[derive(Clone, Copy, Default)]
 struct PutOff {
-    letter: [u8; KIND_AT + 5],
+    letter: Letter,
     // The meals of the worker when it came.
     ate: u32,
 }
@@ -202,20 +217,18 @@ impl<T: Send, S: Send> OpenTable<T, S> {
 
     fn arrive(&self, seat: &Seat<T, S>, state: &mut State<T, S>, post: Post<T>) -> Result<()> {
         let i = usize::from(post.place);
-        let letter = &post.letter[..usize::from(post.len)];
-        if letter[KIND_AT] == REQUEST && self.manner.patience > 0 {
+        if matches!(post.put_by, Kind::Ask(_)) && self.manner.patience > 0 {
             // If nobody is here, nothing is put off, unless somebody comes again and again: between two meals nobody is
             // here either. Then `settle` has a neighbour look.
             let is_urgent = post.is_urgent || state.is_idle() && state.streak < 2;
             state.put_off |= bit(post.place);
             state.urgent = state.urgent & !bit(post.place) | u64::from(is_urgent) << i;
-            state.requests[i].ate = state.ate;
-            state.requests[i].letter.copy_from_slice(letter);
+            state.requests[i] = PutOff { letter: post.letter, ate: state.ate };
             return Ok(());
         }
         state.note(seat.number, Kind::Take(u32::from(post.place)));
-        state.site.take(letter)?;
-        if letter[KIND_AT] == FORK {
+        state.site.take(post.letter.bytes())?;
+        if matches!(post.put_by, Kind::Give(_)) {
             state.has_fork(i, post.value);
             state.clean |= bit(post.place);
             seat.lacks.store(state.lacks(), Ordering::Relaxed);
@@ -278,7 +291,7 @@ impl<T: Send, S: Send> OpenTable<T, S> {
         while let Some(i) = take_lowest(&mut places) {
             state.note(seat.number, Kind::Take(i as u32));
             let letter = state.requests[i].letter;
-            state.site.take(&letter)?;
+            state.site.take(letter.bytes())?;
         }
         Ok(())
     }
@@ -292,10 +305,8 @@ impl<T: Send, S: Send> OpenTable<T, S> {
         kind: Kind,
     ) -> Result<()> {
         state.note(seat.number, kind);
-        let mut post = Post { letter: [0; LETTER_MAX], len: 0, place: 0, is_urgent: state.is_hurried, value: None };
-        let letter = state.site.act(kind)?;
-        post.letter[..letter.len()].copy_from_slice(letter);
-        post.len = letter.len() as u8;
+        let letter = Letter::of(state.site.act(kind)?);
+        let mut post = Post { letter, put_by: kind, place: 0, is_urgent: state.is_hurried, value: None };
         let i = match kind {
             Kind::Give(i) => {
                 state.forks &= !bit(i);

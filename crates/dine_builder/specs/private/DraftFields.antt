@@ -6,7 +6,7 @@ use Rattle.dine_builder.specs.declared.drafts.PlanBuilder.TheInside.{Inside}
 
 -- the site that the fields of a `DraftSite` describe
 abbrev pub seen_draft_site : DraftSite → SeenDraftSite
-seen_draft_site site = record { name = string_bytes site.name; jobs = site.jobs.items; resigns = site.resigns }
+seen_draft_site site = record { name = string_bytes site.name; jobs = site.jobs.items; plain = site.plain; resigns = site.resigns }
 
 -- the draft that the fields of a `PlanBuilder` describe
 abbrev pub seen_draft : Inside → Draft

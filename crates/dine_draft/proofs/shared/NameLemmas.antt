@@ -1,5 +1,5 @@
 -- The names of the sites so far, as a set of texts.
-use Rattle.std.proofs.Common.{◌≡◌, ℕ, ◌+◌, ◌<◌, ◌≤◌, Bool, true, false, ◌||◌, List, [], ◌∷◌, ◌++◌, map, length, take, get_or, Bor, string_bytes, Ordering, Less, Equal, Greater, is_eq, nat_cmp, refl, sym, ap, ◌∙◌, arith}
+use Rattle.std.proofs.Common.{◌≡◌, ℕ, ◌+◌, ◌<◌, Bool, true, false, ◌||◌, List, [], ◌∷◌, ◌++◌, map, length, take, get_or, Bor, string_bytes, Ordering, Less, Equal, Greater, is_eq, nat_cmp, refl, sym, ap, ◌∙◌, arith}
 use Rattle.std.specs.List.{list_any, list_all}
 use Rattle.std.specs.Fmt.{decimal}
 use Rattle.std.specs.Str.{bytes_eq}
@@ -100,8 +100,8 @@ digits_are_names (d ∷ ds) h =
     rw (first, digits_are_names ds h.1)
 
 -- a number is a name
-pub decimal_is_name : (n : ℕ) → n < 4294967296 → is_name (decimal n) ≡ true
+pub decimal_is_name : (n : ℕ) → n < 18446744073709551616 → is_name (decimal n) ≡ true
 decimal_is_name n small =
     let digits = (decimal_is_IsNumeral n (omega arith)).0 in
-    let few = length-decimal-le 10 n (omega arith) (omega arith) (omega arith) in
+    let few = length-decimal-le 20 n (omega arith) (omega arith) (omega arith) in
     rw (le-leb 1 (length (decimal n)) digits.0, le-leb (length (decimal n)) 32 (omega arith)) (digits_are_names (decimal n) digits.1)

@@ -1,12 +1,14 @@
 -- What is not refused is a plan.
-use Rattle.std.proofs.Common.{◌≡◌, ◌≢◌, ℕ, ◌-◌, ◌<◌, ◌≤◌, ◌==◌, nat_lt, nat_le, Bool, true, false, min, max, List, [], ◌++◌, map, length, get_or, Option, Some, None, option_map, refl, sym, ap, subst, ◌∙◌, arith}
+use Rattle.std.proofs.Common.{◌≡◌, ◌≢◌, ℕ, ◌-◌, ◌<◌, ◌≤◌, ◌==◌, nat_lt, Bool, true, false, min, max, List, [], ◌++◌, map, length, get_or, Option, Some, None, option_map, refl, sym, ap, subst, ◌∙◌, arith}
 use Rattle.std.specs.List.{position}
 use Rattle.std.specs.Option.{option_or}
 use Rattle.std.specs.Str.{bytes_eq}
 use Rattle.std.proofs.lemmas.Bool.{false≢true, ltb-false, leb-false, eqb-false, eq-eqb, or_parts, not-false}
 use Rattle.std.proofs.lemmas.List.{get_or-map, ext_get_or, length-map}
 use Rattle.std.proofs.lemmas.Slice.Eq.{bytes_eq-Decides}
-use Rattle.dine_graph.specs.Plan.{SeenJob, SeenSite, IsPlan, no_site, no_job, is_name}
+use Rattle.dine_graph.specs.Plan.{SeenSite, IsPlan, no_site, no_job, is_name}
+use Rattle.dine_graph.specs.declared.limits.TheConstants.{MAX_EDGES, MAX_SITES, MAX_TURNS}
+use Rattle.dine_token.specs.declared.limits.TheConstants.{MAX_JOBS, MAX_NUMBER}
 use Rattle.dine_token.specs.Values.{amount_of}
 use Rattle.dine_draft.specs.Draft.{SeenDraft, names_of, ends_of_edge, plan_of, value_of_edge}
 use Rattle.dine_draft.specs.Refusals.{first_some, draft_refusals, first_of_draft, on, site_refusals, end_refusals, pair_refusals, act_refusals, first_twice, same_ends, is_unnamed, is_long, is_large, has_bad_name, has_many_jobs, has_many_turns, has_unknown_end, joined_by, is_loop, has_large_act, has_large_value}
@@ -28,17 +30,17 @@ on_none true fault h = absurd (let no : Some fault ≡ None = h in cc)
 on_none false fault h = refl
 
 -- what holds of sites that are not refused
-pub record AreSites (sites : List SeenSite) : Type 0 where
+pub record AreSites (most : ℕ) (sites : List SeenSite) : Type 0 where
   pub named : position has_bad_name sites ≡ None
   pub apart : first_twice bytes_eq [] (names_of sites) ≡ None
   pub some : (length sites == 0) ≡ false
-  pub few : nat_lt 64 (length sites) ≡ false
-  pub few_jobs : position has_many_jobs sites ≡ None
+  pub few : nat_lt MAX_SITES (length sites) ≡ false
+  pub few_jobs : position (has_many_jobs most) sites ≡ None
   pub few_turns : position has_many_turns sites ≡ None
 
-pub are_sites : (sites : List SeenSite) → first_some (site_refusals sites) ≡ None → AreSites sites
+pub are_sites : (most : ℕ) (sites : List SeenSite) → first_some (site_refusals most sites) ≡ None → AreSites most sites
 unfolding site_refusals
-are_sites sites h =
+are_sites most sites h =
     let a = option_or_none _ _ h in
     let b = option_or_none _ _ a.1 in
     let c = option_or_none _ _ b.1 in
@@ -69,7 +71,7 @@ are_ends n edges h =
 -- what holds of pairs that are not refused
 pub record ArePairs (pairs : List (Option (ℕ × ℕ))) : Type 0 where
   pub apart : first_twice same_ends None pairs ≡ None
-  pub few : nat_lt 512 (length pairs) ≡ false
+  pub few : nat_lt MAX_EDGES (length pairs) ≡ false
 
 pub are_pairs : (pairs : List (Option (ℕ × ℕ))) → first_some (pair_refusals pairs) ≡ None → ArePairs pairs
 unfolding pair_refusals
@@ -95,21 +97,21 @@ are_acts d h =
 no_edge : DraftEdge
 no_edge = record { a = 0; b = 0; value = 0 }
 
-site_few_jobs : (site : SeenSite) → has_many_jobs site ≡ false → length site.jobs ≤ 1000
+site_few_jobs : (most : ℕ) (site : SeenSite) → has_many_jobs most site ≡ false → length site.jobs ≤ most
 unfolding has_many_jobs
-site_few_jobs site h = ltb-false 1000 (length site.jobs) h
+site_few_jobs most site h = ltb-false most (length site.jobs) h
 
-site_few_turns : (site : SeenSite) (k : ℕ) → has_many_turns site ≡ false → 1 ≤ k → k ≤ length site.jobs → (get_or site.jobs (k - 1) no_job).turns ≤ 1000000
+site_few_turns : (site : SeenSite) (k : ℕ) → has_many_turns site ≡ false → 1 ≤ k → k ≤ length site.jobs → (get_or site.jobs (k - 1) no_job).turns ≤ MAX_TURNS
 unfolding has_many_turns
-site_few_turns site k h low high = ltb-false 1000000 _ (list_any_false_at is_long site.jobs (k - 1) no_job h (omega arith))
+site_few_turns site k h low high = ltb-false MAX_TURNS _ (list_any_false_at is_long site.jobs (k - 1) no_job h (omega arith))
 
-site_small_acts : (site : SeenSite) (k : ℕ) → has_large_act site ≡ false → 1 ≤ k → k ≤ length site.jobs → amount_of (get_or site.jobs (k - 1) no_job).act ≤ 1000000
+site_small_acts : (site : SeenSite) (k : ℕ) → has_large_act site ≡ false → 1 ≤ k → k ≤ length site.jobs → amount_of (get_or site.jobs (k - 1) no_job).act ≤ MAX_NUMBER
 unfolding has_large_act
-site_small_acts site k h low high = ltb-false 1000000 _ (list_any_false_at is_large site.jobs (k - 1) no_job h (omega arith))
+site_small_acts site k h low high = ltb-false MAX_NUMBER _ (list_any_false_at is_large site.jobs (k - 1) no_job h (omega arith))
 
-small_value : (edge : DraftEdge) → has_large_value edge ≡ false → edge.value ≤ 1000000
+small_value : (edge : DraftEdge) → has_large_value edge ≡ false → edge.value ≤ MAX_NUMBER
 unfolding has_large_value
-small_value edge h = ltb-false 1000000 edge.value h
+small_value edge h = ltb-false MAX_NUMBER edge.value h
 
 site_named : (site : SeenSite) → has_bad_name site ≡ false → is_name site.name ≡ true
 unfolding has_bad_name
@@ -171,23 +173,25 @@ pairs_apart pairs e f apart before within same =
     false≢true (sym (rw (get_or-map Some pairs e (0, 0) None (omega arith), get_or-map Some pairs f (0, 0) None within) at (first_twice_none_apart same_ends None (map Some pairs) e f apart before (omega arith))) ∙ same_pair _ _ same)
 
 -- sites, ends and pairs that are not refused make a plan
-pub is_plan : (d : SeenDraft) → 1 ≤ d.version → d.version ≤ 2 → AreSites d.sites → AreEnds (length d.sites) d.edges → ArePairs (map (joined_by (length d.sites)) d.edges) → AreActs d → IsPlan (plan_of d)
-is_plan d first_version last_version are ends pairs acts =
+pub is_plan : (d : SeenDraft) → 1 ≤ d.version → d.version ≤ 2 → d.most_jobs ≤ MAX_JOBS → AreSites d.most_jobs d.sites → AreEnds (length d.sites) d.edges → ArePairs (map (joined_by (length d.sites)) d.edges) → AreActs d → IsPlan (plan_of d)
+is_plan d first_version last_version small are ends pairs acts =
     let sites = d.sites in
     let edges = d.edges in
     let n = length sites in
     let edge_count : length (map ends_of_edge edges) ≡ length edges = length-map edges ends_of_edge in
     let joined : length (map (joined_by n) edges) ≡ length edges = length-map edges (joined_by n) in
     let some = eqb-false _ _ are.some in
-    let few = ltb-false 64 _ are.few in
-    let few_edges = ltb-false 512 _ pairs.few in
+    let few = ltb-false MAX_SITES _ are.few in
+    let few_edges = ltb-false MAX_EDGES _ pairs.few in
     record {
       first_version = first_version;
       last_version = last_version;
       has_site = omega arith;
       few_sites = few;
       few_edges = omega arith;
-      few_jobs = λ s h. site_few_jobs _ (position_none_at has_many_jobs sites s no_site are.few_jobs h);
+      few_jobs = λ s h.
+          let few : length (get_or sites s no_site).jobs ≤ d.most_jobs = site_few_jobs d.most_jobs _ (position_none_at (has_many_jobs d.most_jobs) sites s no_site are.few_jobs h) in
+          omega (arith, few, small);
       few_turns = λ s k h low high. site_few_turns _ k (position_none_at has_many_turns sites s no_site are.few_turns h) low high;
       small_acts = λ s k h low high. site_small_acts _ k (position_none_at has_large_act sites s no_site acts.small_acts h) low high;
       named = λ s h. site_named _ (position_none_at has_bad_name sites s no_site are.named h);
@@ -208,20 +212,20 @@ is_plan d first_version last_version are ends pairs acts =
 
 -- the first refusal of a draft is the first of the four groups that has one
 pub first_of_groups : (d : SeenDraft) → first_of_draft d
-    ≡ option_or (first_some (site_refusals d.sites)) (option_or (first_some (end_refusals (length d.sites) d.edges)) (option_or (first_some (pair_refusals (map (joined_by (length d.sites)) d.edges))) (first_some (act_refusals d))))
+    ≡ option_or (first_some (site_refusals d.most_jobs d.sites)) (option_or (first_some (end_refusals (length d.sites) d.edges)) (option_or (first_some (pair_refusals (map (joined_by (length d.sites)) d.edges))) (first_some (act_refusals d))))
 unfolding first_of_draft draft_refusals
 first_of_groups d =
     let n = length d.sites in
     let pairs = pair_refusals (map (joined_by n) d.edges) in
     let acts = act_refusals d in
-    first_some-append (site_refusals d.sites) (end_refusals n d.edges ++ (pairs ++ acts))
-    ∙ ap (option_or (first_some (site_refusals d.sites)))
+    first_some-append (site_refusals d.most_jobs d.sites) (end_refusals n d.edges ++ (pairs ++ acts))
+    ∙ ap (option_or (first_some (site_refusals d.most_jobs d.sites)))
     (first_some-append (end_refusals n d.edges) (pairs ++ acts) ∙ ap (option_or (first_some (end_refusals n d.edges))) (first_some-append pairs acts))
 
 -- a draft that is not refused has a plan
-pub plan_of_fine : (d : SeenDraft) → 1 ≤ d.version → d.version ≤ 2 → first_of_draft d ≡ None → IsPlan (plan_of d)
-plan_of_fine d first_version last_version fine =
+pub plan_of_fine : (d : SeenDraft) → 1 ≤ d.version → d.version ≤ 2 → d.most_jobs ≤ MAX_JOBS → first_of_draft d ≡ None → IsPlan (plan_of d)
+plan_of_fine d first_version last_version small fine =
     let sites = option_or_none _ _ (sym (first_of_groups d) ∙ fine) in
     let ends = option_or_none _ _ sites.1 in
     let pairs = option_or_none _ _ ends.1 in
-    is_plan d first_version last_version (are_sites _ sites.0) (are_ends _ _ ends.0) (are_pairs _ pairs.0) (are_acts _ pairs.1)
+    is_plan d first_version last_version small (are_sites _ _ sites.0) (are_ends _ _ ends.0) (are_pairs _ pairs.0) (are_acts _ pairs.1)

@@ -13,7 +13,8 @@ use Rattle.dine_rules.specs.declared.events.Event.{Event}
 use Rattle.dine_rules.specs.declared.events.EventKind.{EventKind}
 use Rattle.dine_rules.specs.declared.events.EventKind.TheVariants.{End, Quit}
 use Rattle.dine_rules.specs.Journals.{fails_before, outcomes_in}
-use Rattle.dine_rules.specs.Steps.{Shape, shape_of, fork_by}
+use Rattle.dine_rules.specs.declared.events.Shape.{Shape}
+use Rattle.dine_rules.specs.Steps.{shape_of, fork_by}
 use Rattle.dine_rules.specs.Values.{value_along, value_by}
 use Rattle.dine_rules.proofs.shared.journals.OtherOutcomes.{acts-same, jobs-same}
 use Rattle.dine_rules.proofs.shared.journals.Shown.{all_long, own_is, own_long}

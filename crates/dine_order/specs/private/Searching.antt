@@ -4,7 +4,9 @@ use Rattle.dine_graph.specs.Plan.{SeenPlan, site_count}
 use Rattle.dine_rules.specs.declared.events.Event.{Event}
 use Rattle.dine_rules.specs.declared.events.EventKind.{EventKind}
 use Rattle.dine_rules.specs.Local.{neighbour_at}
-use Rattle.dine_rules.specs.Steps.{Shape, Takes, Puts, Alone, shape_of}
+use Rattle.dine_rules.specs.declared.events.Shape.{Shape}
+use Rattle.dine_rules.specs.declared.events.Shape.TheVariants.{Takes, Puts, Alone}
+use Rattle.dine_rules.specs.Steps.{shape_of}
 use Rattle.dine_rules.specs.World.{WorldState, Reaches, world_after}
 use Rattle.dine_rules.specs.Journals.{IsFrontOf, IsLowestFirst, IsPlacedToEnd, is_ready, journal_of, next_of, part_of}
 use Rattle.dine_world.specs.Worlds.{IsWorldOf, SeenWorld}

@@ -10,7 +10,7 @@ ghost use Rattle.dine_rules.specs.Shown.{plan_shown};
 ghost use Rattle.dine_order.specs.private.Searching.{FindsNext, IsFound, IsSearched, IsSearching, kind_at, receiver_of};
 
 use dine_graph::Plan;
-use dine_rules::laws;
+use dine_rules::{Shape, laws};
 use dine_set::BitSet64;
 use dine_world::{Event, EventKind, World};
 use std::alloc::{AllocError, Global};
@@ -22,7 +22,7 @@ pub(super) fn place_all<J: AsSlice<EventKind>>(
     plan: &Plan,
     journals: &[J],
     world: &mut World,
-    counts: &mut [u32],
+    counts: &mut [u64],
 ) -> Result<Vec<Event>, AllocError>
     requires world { let shown = plan_shown plan.now (map J.items journals.now) in
         IsWorldOf shown (start shown) world.old }
@@ -46,7 +46,7 @@ pub(super) fn place_all<J: AsSlice<EventKind>>(
 // and is not ready leaves the set.
 fn place_next<J: AsSlice<EventKind>>(
     journals: &[J],
-    counts: &[u32],
+    counts: &[u64],
     world: &mut World,
     untried: &mut BitSet64,
 ) -> Option<Event>
@@ -66,7 +66,7 @@ fn place_next<J: AsSlice<EventKind>>(
 
 // Returns the next event of the site's journal, given the number of events of each site that were placed. It returns
 // None if no event is left, or if there is no such site.
-fn next_kind<J: AsSlice<EventKind>>(journals: &[J], counts: &[u32], site: u32) -> Option<EventKind>
+fn next_kind<J: AsSlice<EventKind>>(journals: &[J], counts: &[u64], site: u32) -> Option<EventKind>
     ensures { result ≡ kind_at (map J.items journals.now) counts.now site }
 {
     let journal = journals.get(site as usize)?;
@@ -76,7 +76,7 @@ fn next_kind<J: AsSlice<EventKind>>(journals: &[J], counts: &[u32], site: u32) -
 
 // Counts an event that was placed. The site that gets a letter by it may be ready now, and is put into the set.
 #[tactic(auto, using(crate::proofs::shared::Shown::sites_shown))]
-fn note(plan: &Plan, event: Event, counts: &mut [u32], untried: &mut BitSet64)
+fn note(plan: &Plan, event: Event, counts: &mut [u64], untried: &mut BitSet64)
     requires { (lists : List (List EventKind)) × (placed : List Event) × (seen : SeenWorld)
         × IsFound (plan_shown plan.now lists) lists placed counts.old untried.old event seen }
     ensures { (lists : List (List EventKind)) (placed : List Event) (seen : SeenWorld)
@@ -100,15 +100,11 @@ fn receiver(plan: &Plan, event: Event) -> Option<u32>
     ensures site { result ≡ receiver_of plan.now event }
     ensures within { IfSome result (λ other. other < 64) }
 {
-    match event.kind {
-        EventKind::Give(i) | EventKind::Ask(i) | EventKind::Done(i) | EventKind::Close(i) => {
+    match event.kind.shape() {
+        Shape::Puts(i) => {
             let edge = plan.edges_of(event.site)[i as usize];
             Some(plan.other(edge, event.site))
         }
-        EventKind::Take(_)
-        | EventKind::End
-        | EventKind::Begin
-        | EventKind::Quit
-        | EventKind::Hungry => None,
+        Shape::Takes(_) | Shape::Alone => None,
     }
 }

@@ -39,13 +39,3 @@ keys_of-view (e ∷ es) = ap (λ ks. string_bytes e.0 ∷ ks) (keys_of-view es)
 pub first_of_document : (doc : Data) → first_refusal doc ≡ option_or (first_some (form_refusals doc)) (first_of_draft (draft_of doc))
 unfolding first_refusal first_of_draft
 first_of_document doc = first_some-append (form_refusals doc) (draft_refusals (draft_of doc))
-
-version_bounds : (b : Bool) → (1 ≤ cond b 2 1) × (cond b 2 1 ≤ 2)
-version_bounds true = (omega arith, omega arith)
-version_bounds false = (omega arith, omega arith)
-
--- a document that is not refused has a plan
-pub plan_of_document_fine : (doc : Data) → first_refusal doc ≡ None → IsPlan (plan_of_document doc)
-plan_of_document_fine doc fine =
-    let bounds = version_bounds (is_second doc) in
-    plan_of_fine (draft_of doc) bounds.0 bounds.1 (option_or_none _ _ (sym (first_of_document doc) ∙ fine)).1

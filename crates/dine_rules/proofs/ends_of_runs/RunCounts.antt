@@ -4,6 +4,8 @@ use Rattle.std.specs.List.{range_with_len}
 use Rattle.std.proofs.lemmas.List.Elements.{All-from_get_or}
 use Rattle.std.proofs.lemmas.List.FromFn.{get_or-range_with_len, length-range_with_len}
 use Rattle.std.proofs.lemmas.List.Sums.{sum-map, sum_by-le}
+use Rattle.dine_graph.specs.declared.limits.TheConstants.{MAX_EDGES, MAX_SITES}
+use Rattle.dine_token.specs.declared.limits.TheConstants.{MAX_JOBS}
 use Rattle.dine_graph.specs.Plan.{SeenPlan, IsPlan, site_count, edge_count, job_count, lo_of, hi_of}
 use Rattle.dine_rules.specs.declared.events.Event.{Event}
 use Rattle.dine_rules.specs.World.{WorldState, start, world_after, enabled_events, Reaches}
@@ -94,7 +96,7 @@ module _ (plan : SeenPlan) (is_plan : IsPlan plan) where
         subst (λ x. f x ≤ m) (sym (get_or-range_with_len 0 n k 0 is ∙ zero-add k)) (each k is))),
   )
 
-  edge_few : (edge : ℕ) → edge < edge_count plan → 4 * meals_due plan edge + 8 ≤ 8008
+  edge_few : (edge : ℕ) → edge < edge_count plan → 4 * meals_due plan edge + 8 ≤ 8 * MAX_JOBS + 8
   edge_few edge is_edge = omega (
     arith,
     is_plan.ordered edge is_edge,
@@ -103,11 +105,11 @@ module _ (plan : SeenPlan) (is_plan : IsPlan plan) where
     is_plan.few_jobs (hi_of plan edge) (is_plan.within edge is_edge),
   )
 
-  pub bound_is_small : bound_of plan ≤ 4292096
+  pub bound_is_small : bound_of plan ≤ 3 * (MAX_SITES * MAX_JOBS) + MAX_EDGES * (8 * MAX_JOBS + 8)
   bound_is_small = omega (
     arith,
-    within (job_count plan) (site_count plan) 1000 is_plan.few_jobs,
-    within (λ edge. 4 * meals_due plan edge + 8) (edge_count plan) 8008 edge_few,
+    within (job_count plan) (site_count plan) MAX_JOBS is_plan.few_jobs,
+    within (λ edge. 4 * meals_due plan edge + 8) (edge_count plan) (8 * MAX_JOBS + 8) edge_few,
     is_plan.few_sites,
     is_plan.few_edges,
   )

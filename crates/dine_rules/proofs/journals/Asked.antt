@@ -18,7 +18,8 @@ use Rattle.dine_rules.specs.Journals.{IsJournal, IsWholeOrder, journal_of, part_
 use Rattle.dine_rules.specs.Letters.{last_log_or}
 use Rattle.dine_rules.specs.Local.{LocalState, Traffic, no_traffic, start_of, traffic_at}
 use Rattle.dine_rules.specs.StepLists.{LeadTo, begins_in, is_give_at}
-use Rattle.dine_rules.specs.Steps.{Step, Take, Takes, after, may}
+use Rattle.dine_rules.specs.declared.events.Shape.TheVariants.{Takes}
+use Rattle.dine_rules.specs.Steps.{Step, Take, after, may}
 use Rattle.dine_rules.specs.World.{Reaches, WorldState, start, state_of}
 use Rattle.dine_rules.proofs.shared.counting.Persistence.{set_cases}
 use Rattle.dine_rules.proofs.shared.links.WorldStreams.{next_of, start_state}

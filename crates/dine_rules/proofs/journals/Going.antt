@@ -12,7 +12,8 @@ use Rattle.dine_rules.specs.Askers.{meals_begun}
 use Rattle.dine_rules.specs.Journals.{fails_before, next_of_these, part_of, state_after, state_after_all}
 use Rattle.dine_rules.specs.Local.{LocalState, meal_fails}
 use Rattle.dine_rules.specs.Steps as its
-use Rattle.dine_rules.specs.Steps.{Begin, Step, Take, Takes, after, may, step_by}
+use Rattle.dine_rules.specs.declared.events.Shape.TheVariants.{Takes}
+use Rattle.dine_rules.specs.Steps.{Begin, Step, Take, after, may, step_by}
 use Rattle.dine_rules.specs.World.{WorldState, after_events, next_letter, no_state, state_of, world_after}
 use Rattle.dine_rules.proofs.shared.journals.JournalStates.{own_step}
 use Rattle.dine_rules.proofs.journals.Parts.{part-other, part-same}

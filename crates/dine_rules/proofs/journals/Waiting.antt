@@ -10,7 +10,8 @@ use Rattle.dine_rules.specs.declared.events.EventKind.{EventKind}
 use Rattle.dine_rules.specs.declared.events.EventKind.TheVariants as event
 use Rattle.dine_rules.specs.Local.{LocalState, Traffic, edge_at, meal_fails, neighbour_at, no_traffic, traffic_at}
 use Rattle.dine_rules.specs.Breach.{is_allowed}
-use Rattle.dine_rules.specs.Steps.{End, Puts, Step, Take, after, shape_of}
+use Rattle.dine_rules.specs.declared.events.Shape.TheVariants.{Puts}
+use Rattle.dine_rules.specs.Steps.{End, Step, Take, after, shape_of}
 use Rattle.dine_rules.specs.World.{Reaches, WorldState, is_enabled, local_after, next_letter, no_state, place_of, put_to, site_after, state_of, step_of, world_after}
 use Rattle.dine_rules.proofs.shared.links.Across.{across}
 use Rattle.dine_rules.proofs.shared.counting.Persistence.{set_cases, state_stays}

@@ -1,6 +1,7 @@
 -- How many letters a site puts at a place.
 use Rattle.std.proofs.Common.{◌≡◌, ℕ, ◌+◌, ◌*◌, ◌<◌, ◌≤◌, Bool, true, false, cond, not, ◌&&◌, ◌==◌, List, [], ◌∷◌, ◌++◌, length, refl, sym, ◌∙◌, ap, inl, inr, arith}
 use Rattle.std.proofs.lemmas.Bool.{false≢true, and_parts, not-true, or_cases, cases_Bool, cond-true, cond-false, eqb-true}
+use Rattle.dine_token.specs.declared.limits.TheConstants.{MAX_JOBS}
 use Rattle.dine_token.specs.declared.log_entry.Entry.{Entry}
 use Rattle.dine_token.specs.declared.log_entry.Entry.TheVariants.{Move}
 use Rattle.dine_token.specs.Log.{is_dirty, location_of}
@@ -98,5 +99,5 @@ module _ (plan : SeenPlan) (s : ℕ) (state : LocalState) (i : ℕ) where
   pub puts_within : KeepsStreams plan s state → i < length state.traffic → length (traffic_at state i).put ≤ 2 * job_count plan s + 3
   puts_within keeps within = omega (arith, length-letters (traffic_at state i).put, forks_within keeps within, requests_within keeps within, dones_within (keeps.places i within), closes_within (keeps.places i within))
 
-  pub puts_few : IsPlan plan → s < site_count plan → KeepsStreams plan s state → i < length state.traffic → length (traffic_at state i).put ≤ 2003
+  pub puts_few : IsPlan plan → s < site_count plan → KeepsStreams plan s state → i < length state.traffic → length (traffic_at state i).put ≤ 2 * MAX_JOBS + 3
   puts_few is_plan is_site keeps within = omega (arith, puts_within keeps within, is_plan.few_jobs s is_site)

@@ -1,5 +1,6 @@
 -- How many letters a site takes at a place.
-use Rattle.std.proofs.Common.{ℕ, ◌+◌, ◌<◌, ◌≤◌, not, length, arith}
+use Rattle.std.proofs.Common.{ℕ, ◌+◌, ◌*◌, ◌<◌, ◌≤◌, not, length, arith}
+use Rattle.dine_token.specs.declared.limits.TheConstants.{MAX_JOBS}
 use Rattle.dine_graph.specs.Plan.{SeenPlan, IsPlan, site_count, job_count}
 use Rattle.dine_rules.specs.Letters.{forks_in, requests_in, dones_in, closes_in}
 use Rattle.dine_rules.specs.Local.{LocalState, traffic_at}
@@ -25,7 +26,7 @@ module _ (plan : SeenPlan) (s : ℕ) (state : LocalState) (i : ℕ) where
   closes_taken_within k = one_close (traffic_at state i).taken k.taken_lawful.close_last
 
   -- all letters that a site takes at a place
-  pub takes_few : IsPlan plan → s < site_count plan → KeepsStreams plan s state → i < length state.traffic → length (traffic_at state i).taken ≤ 2003
+  pub takes_few : IsPlan plan → s < site_count plan → KeepsStreams plan s state → i < length state.traffic → length (traffic_at state i).taken ≤ 2 * MAX_JOBS + 3
   takes_few is_plan is_site keeps within = omega (
     arith,
     length-letters (traffic_at state i).taken,

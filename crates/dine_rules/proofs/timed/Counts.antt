@@ -7,7 +7,9 @@ use Rattle.dine_graph.specs.Plan.{SeenPlan}
 use Rattle.dine_rules.specs.declared.events.EventKind.{EventKind}
 use Rattle.dine_rules.specs.declared.letters.Letter.{Letter}
 use Rattle.dine_rules.specs.Local.{LocalState, Traffic, no_traffic, traffic_at}
-use Rattle.dine_rules.specs.Steps.{Shape, Takes, Puts, Alone, MovesBy, shape_of}
+use Rattle.dine_rules.specs.declared.events.Shape.{Shape}
+use Rattle.dine_rules.specs.declared.events.Shape.TheVariants.{Takes, Puts, Alone}
+use Rattle.dine_rules.specs.Steps.{MovesBy, shape_of}
 use Rattle.dine_rules.specs.Journals.{fails_before, next_of_these, state_after, state_after_all}
 use Rattle.dine_rules.proofs.shared.lists.Options.{and_then_parts}
 use Rattle.dine_rules.proofs.shared.one_site.Shapes.{event_moved}

@@ -10,7 +10,8 @@ use Rattle.dine_rules.specs.declared.events.EventKind.{EventKind}
 use Rattle.dine_rules.specs.declared.events.EventKind.TheVariants as event
 use Rattle.dine_rules.specs.declared.letters.Letter.{Letter}
 use Rattle.dine_rules.specs.Local.{LocalState, Traffic, edge_at, is_eating, meal_fails, neighbour_at, no_traffic, start_of, traffic_at}
-use Rattle.dine_rules.specs.Steps.{Shape, Step, End, Take, after, may, shape_of, step_by}
+use Rattle.dine_rules.specs.declared.events.Shape.{Shape}
+use Rattle.dine_rules.specs.Steps.{Step, End, Take, after, may, shape_of, step_by}
 use Rattle.dine_rules.specs.World.{WorldState, IsComplete, after_events, local_after, next_letter, place_of, put_to, start, state_of, step_of, world_after}
 use Rattle.dine_rules.specs.Journals.{AreStatesAfter, FailAsShown, IsOrderOf, IsWholeOrder, fails_before, journal_of, next_of_these, outcomes_in, part_of, state_after, state_after_all}
 use Rattle.dine_rules.proofs.shared.links.Across.{IsAcross, across}

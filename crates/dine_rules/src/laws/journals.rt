@@ -20,7 +20,8 @@ ghost use Rattle.dine_rules.specs.Askers.{AskersWaitForOneMeal, NeighbourWaits, 
 ghost use Rattle.dine_rules.specs.EatingApart.{NeighboursEatApart};
 ghost use Rattle.dine_rules.specs.Shown.{ResignAsPlanned, plan_shown, shown_in};
 ghost use Rattle.dine_rules.specs.Timed.{AreTimed};
-ghost use Rattle.dine_rules.specs.Steps.{Puts, Step, after, may, shape_of, step_by};
+ghost use Rattle.dine_rules.specs.declared.events.Shape.TheVariants.{Puts};
+ghost use Rattle.dine_rules.specs.Steps.{Step, after, may, shape_of, step_by};
 ghost use Rattle.dine_rules.specs.World.{IsComplete, Reaches, WorldState, is_enabled, state_of, world_after};
 ghost use Rattle.dine_rules.specs.declared.events.Event.{Event};
 ghost use Rattle.dine_rules.specs.declared.events.EventKind.{EventKind};

@@ -1,5 +1,7 @@
 // The next event that a site does without a letter.
-ghost use Rattle.std.specs.Prelude.{◌≡◌, ◌≤◌, filter, find, length, slice_get};
+ghost use Rattle.std.specs.Prelude.{◌≡◌, ◌≤◌, ℕ, Bool, None, Some, filter, find, length, slice_get, true};
+ghost use Rattle.dine_rules.specs.declared.events.Shape.TheVariants.{Puts};
+ghost use Rattle.dine_rules.specs.Steps.{Step, shape_of, step_by};
 ghost use Rattle.std.specs.List.{range_with_len};
 ghost use Rattle.dine_rules.specs.World.{placeless_kinds};
 ghost use Rattle.dine_site.specs.NextEvent.{can_by_itself, next_event};
@@ -8,13 +10,51 @@ ghost use Rattle.dine_site.specs.NextEvent.{next_of, own_kinds};
 ghost use Rattle.dine_site.specs.private.OwnEvents.{next_word_of, own_words};
 ghost use Rattle.dine_set.specs.Marks.{marks_of};
 ghost use Rattle.dine_site.specs.Places.{can_ask, can_close, can_give, can_say_done};
-ghost use Rattle.dine_site.specs.Standing.{ForEachState};
+ghost use Rattle.dine_site.specs.Standing.{CorePuts, ForEachState};
 
 use super::SiteCore;
-use dine_rules::{EventKind, Phase};
+use dine_rules::{EventKind, Letter, Phase};
 use dine_set::BitSet64;
 
 impl SiteCore {
+    /// Returns whether the site may do the event now without a letter. It never may do a Take.
+    pub fn may(&self, kind: EventKind) -> bool
+        ensures { result ≡ can_by_itself self.now kind }
+    {
+        match kind {
+            EventKind::Take(_) => false,
+            EventKind::Give(i) => i < self.degree() && self.may_give(i),
+            EventKind::End => self.may_end(),
+            EventKind::Begin => self.may_begin(),
+            EventKind::Quit => self.may_quit(),
+            EventKind::Hungry => self.may_hungry(),
+            EventKind::Ask(i) => i < self.degree() && self.may_ask(i),
+            EventKind::Done(i) => i < self.degree() && self.may_done(i),
+            EventKind::Close(i) => i < self.degree() && self.may_close(i),
+        }
+    }
+
+    /// Does an event that puts a letter, and returns the letter.
+    pub fn put(&mut self, kind: EventKind) -> Letter
+        requires puts { (i : ℕ) × (shape_of kind ≡ Puts i) }
+        requires may { can_by_itself self.old kind ≡ true }
+        ensures site { self.new.site ≡ self.old.site }
+        ensures step { (failed : Bool) (i : ℕ) (one : Step) → shape_of kind ≡ Puts i
+            → step_by failed (λ place. None) kind ≡ Some one → CorePuts i one self.old self.new result }
+    {
+        match kind {
+            EventKind::Give(i) => self.give(i),
+            EventKind::Ask(i) => self.ask(i),
+            EventKind::Done(i) => self.done(i),
+            EventKind::Close(i) => self.close(i),
+            EventKind::Take(_)
+            | EventKind::End
+            | EventKind::Begin
+            | EventKind::Quit
+            | EventKind::Hungry => { unreachable!() }
+        }
+    }
+
     /// Returns the first event other than Take that the site may do now, in the fixed order: Give by place, End, Begin,
     /// Quit, Hungry, Ask by place, Done by place, Close by place. Returns `None` if it may do none of these until a
     /// letter arrives.

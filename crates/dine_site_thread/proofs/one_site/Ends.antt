@@ -91,6 +91,7 @@ module _ {Identity : Type 0} (plan : SeenPlan) (given : List (SeenPort Identity)
             no_stray = λ e. h.2;
             breach = λ link breach e. absurd (cc);
             lost = λ link e. absurd (cc);
+            degree = λ degree e. absurd (cc);
           };
           site = refl;
           forks = are_forks plan running.state running.has.keeps running.has.stands;
@@ -98,7 +99,7 @@ module _ {Identity : Type 0} (plan : SeenPlan) (given : List (SeenPort Identity)
           same_links = running.has.same_links;
           rang = λ i port at. rang_same port (running.lists i port at).rang;
           heard = λ e. (running.heard, λ i port at. (running.lists i port at).unrefused.ring);
-          lost_bell = λ e. absurd (cc);
+          lost_bell = λ degree e. absurd (cc);
         };
         started = λ e. absurd (cc);
         wait_reported = λ r. absurd (false≢true (sym running.heard ∙ r));
@@ -132,6 +133,7 @@ module _ {Identity : Type 0} (plan : SeenPlan) (given : List (SeenPort Identity)
             no_stray = stopped.no_stray;
             breach = λ link breach e. stopped.breach link breach (same_Some cause (fault.Breach link breach) e);
             lost = λ link e. stopped.lost link (same_Some cause (fault.Lost link) e);
+            degree = λ degree e. (stopped.lost_bell degree (same_Some cause (fault.LostBell degree) e)).0;
           };
           site = refl;
           forks = are_forks plan stopped.state stopped.has.keeps stopped.has.stands;
@@ -139,12 +141,12 @@ module _ {Identity : Type 0} (plan : SeenPlan) (given : List (SeenPort Identity)
           same_links = stopped.has.same_links;
           rang = λ i port at. (stopped.lists i port at).rang;
           heard = λ e. absurd (cc);
-          lost_bell = λ e. stopped.lost_bell (same_Some cause (fault.Lost (length stopped.state.traffic)) e);
+          lost_bell = λ degree e. (stopped.lost_bell degree (same_Some cause (fault.LostBell degree) e)).1;
         };
         started = λ e. stopped.started (same_Some cause fault.NotStarted e);
-        wait_reported = λ r. ap (λ (f : SiteFault). Some f) (stopped.wait_reported r ∙ ap fault.Lost (sym stopped.has.stands.degree ∙ sym stopped.has.places));
+        wait_reported = λ r. ap (λ (f : SiteFault). Some f) (stopped.wait_reported r ∙ ap fault.LostBell (sym stopped.has.stands.degree ∙ sym stopped.has.places));
         ring_reported = λ i port at r. elim (stopped.ring_reported i port at r) [
-          | inl reported ↦ inl (ap (λ (f : SiteFault). Some f) (reported ∙ ap fault.Lost (sym stopped.has.stands.degree ∙ sym stopped.has.places)))
+          | inl reported ↦ inl (ap (λ (f : SiteFault). Some f) (reported ∙ ap fault.LostBell (sym stopped.has.stands.degree ∙ sym stopped.has.places)))
           | inr broke_off ↦ inr broke_off
         ];
       }

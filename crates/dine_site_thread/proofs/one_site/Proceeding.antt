@@ -73,9 +73,9 @@ module _ {Lane Tx Closed Rx Diner : Type 0} (lane : lanes.Ghosts Lane Tx Closed 
       }
 
 -- a site goes on when its bell was checked, or reported a number
-pub proceeds_heard : {Lane Tx Closed Rx Diner : Type 0} (lane : lanes.Ghosts Lane Tx Closed Rx) (diner : diners.Ghosts Diner) (old : Running Lane Diner Tx Closed Rx) (bell : SeenBell) (skips : ℕ) (log : ThreadLog) → bell.refused ≡ old.bell.refused → bell.degree ≡ old.bell.degree → bell.identity ≡ old.bell.identity
-    → IsReady diner old → Proceeds lane diner IsRunning old (record old { bell = bell; skips = skips; log = log })
-proceeds_heard lane diner old bell skips log unrefused degree identity ready = record {
+pub proceeds_heard : {Lane Tx Closed Rx Diner : Type 0} (lane : lanes.Ghosts Lane Tx Closed Rx) (diner : diners.Ghosts Diner) (old : Running Lane Diner Tx Closed Rx) (bell : SeenBell) (tally : ℕ) (log : ThreadLog) → bell.refused ≡ old.bell.refused → bell.degree ≡ old.bell.degree → bell.identity ≡ old.bell.identity
+    → IsReady diner old → Proceeds lane diner IsRunning old (record old { bell = bell; tally = tally; log = log })
+proceeds_heard lane diner old bell tally log unrefused degree identity ready = record {
   way = λ plan given running. heard_runs plan given (seen_run lane old) bell unrefused running;
   ready = record { room = ready.room; failed = ready.failed };
   eats = λ first eaten. eaten;

@@ -4,7 +4,8 @@ use Rattle.std.proofs.lemmas.List.{append_assoc}
 use Rattle.std.specs.Prelude.{OnOk}
 use Rattle.std.specs.Global.{Vec}
 use Rattle.dine_rules.specs.Moments.{last_moment}
-use Rattle.dine_rules.specs.Steps.{Puts, Step, shape_of, step_by}
+use Rattle.dine_rules.specs.declared.events.Shape.TheVariants.{Puts}
+use Rattle.dine_rules.specs.Steps.{Step, shape_of, step_by}
 use Rattle.dine_rules.specs.declared.clock.Clock.{Clock}
 use Rattle.dine_rules.specs.Letters.{kind_of}
 use Rattle.dine_rules.specs.Local.{LocalState}
@@ -74,4 +75,4 @@ module _ {Lane Tx Closed Rx Diner : Type 0} (lane : lanes.Ghosts Lane Tx Closed 
     timed_said = on_ok result (λ goes timed. goes (begins_put old.clock.events old.journal.items (seen_ports lane old.ports.items) kind (last_moment old.clock.events + 1) (omega arith) timed journal.items noted clock.events later i shape))
 
     pub checks_said : ChecksOn said new → ChecksOn old new
-    checks_said checks first are = checks first (checks_more first old.manner old.skips old.bell.found_empty old.clock.events old.journal.items kind (last_moment old.clock.events + 1) no_begin clock.events later journal.items noted are)
+    checks_said checks first are = checks first (checks_more first old.manner old.tally old.bell.found_empty old.clock.events old.journal.items kind (last_moment old.clock.events + 1) no_begin clock.events later journal.items noted are)

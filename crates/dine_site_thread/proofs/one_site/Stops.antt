@@ -1,9 +1,10 @@
 -- A site stops: each fault leaves it with what a stop says, and breaking off keeps that.
-use Rattle.std.proofs.Common.{◌≡◌, ◌⊎◌, ℕ, ◌<◌, ◌≤◌, ◌^◌, ◌==◌, Bool, true, false, cond, if◌then◌else◌, List, [], ◌∷◌, ◌++◌, length, map, set, get_or, Option, Some, None, refl, sym, ◌∙◌, ap, subst, inl, inr, arith, length-append, length-set}
+use Rattle.std.proofs.Common.{◌≡◌, ◌⊎◌, ℕ, ◌+◌, ◌*◌, ◌<◌, ◌≤◌, ◌^◌, ◌==◌, Bool, true, false, cond, if◌then◌else◌, List, [], ◌∷◌, ◌++◌, length, map, set, get_or, Option, Some, None, refl, sym, ◌∙◌, ap, subst, inl, inr, arith, length-append, length-set}
 use Rattle.std.specs.List.{slice_get}
 use Rattle.std.proofs.lemmas.List.{get_or-set_same, get_or-set_other, map-set, map_push}
 use Rattle.std.proofs.lemmas.Bool.{cases_eq, eq-eqb, false≢true, ne_eqb, true≢false}
 use Rattle.std.proofs.lemmas.Option.{none-some, same_Some}
+use Rattle.dine_token.specs.declared.limits.TheConstants.{MAX_JOBS}
 use Rattle.dine_graph.specs.Plan.{SeenPlan, IsPlan, site_count}
 use Rattle.dine_rules.specs.declared.breach.Breach.{Breach}
 use Rattle.dine_rules.specs.declared.events.EventKind.{EventKind}
@@ -89,13 +90,9 @@ one_more plan s places before state i led needs =
 grown_place : (state : LocalState) (i : ℕ) (l : Letter) → length (with_put i l state).traffic ≡ length state.traffic
 grown_place state i l = length-set state.traffic i (record (traffic_at state i) { put = (traffic_at state i).put ++ l ∷ [] })
 
--- a bell refused, and nothing was handed back
-no_letter_lost : {places : ℕ} {links : ℕ → OnLinks} (link : ℕ) → link ≡ places → IsLost places links None link
-no_letter_lost link is = record { within = omega (arith, is); refused = λ below. absurd (omega (arith, is, below)); to_place = λ back b. absurd (none-some back b); no_close = λ back b. absurd (none-some back b) }
-
 -- a stop with this cause and this journal, of a site of this degree, reports the refused ring of the port at place i
 abbrev ReportsRing : {Identity : Type 0} → SiteFault → ℕ → List EventKind → ℕ → SeenPort Identity → Type 0
-ReportsRing cause degree journal i port = (cause ≡ fault.Lost degree) ⊎ BrokeOffUnheard i journal port
+ReportsRing cause degree journal i port = (cause ≡ fault.LostBell degree) ⊎ BrokeOffUnheard i journal port
 
 -- the links of a place whose port changed, and of another
 module _ {Identity : Type 0} (ports : List (SeenPort Identity)) (i : ℕ) (old new : SeenPort Identity) (at : slice_get ports i ≡ Some old) where
@@ -141,17 +138,17 @@ module _ {Identity : Type 0} (ports : List (SeenPort Identity)) (i : ℕ) (old n
   lost_still : {places : ℕ} (stray : Option Stray) (link : ℕ) → IsLost places (links_at ports) stray link → IsLost places (links_at (set ports i new)) stray link
   lost_still stray link lost = record {
     within = lost.within;
-    refused = λ below. elim (cases_eq link i) [
+    refused = elim (cases_eq link i) [
       | inl same ↦
           let was : links_at ports link ≡ on_links old = ap (links_at ports) same ∙ links_there ports i old at in
           let is : links_at (set ports i new) link ≡ on_links new = ap (links_at (set ports i new)) same ∙ new_links ports i old new at in
-          elim (lost.refused below) [
+          elim (lost.refused) [
             | inl put ↦ inl (ap (λ (l : OnLinks). l.put_refused) is ∙ keeps.put (ap (λ (l : OnLinks). l.put_refused) (sym was) ∙ put))
             | inr take ↦ inr (ap (λ (l : OnLinks). l.take_refused) is ∙ keeps.take ∙ ap (λ (l : OnLinks). l.take_refused) (sym was) ∙ take)
           ]
       | inr ne ↦
           let is : links_at (set ports i new) link ≡ links_at ports link = other_links ports i old new at link ne in
-          elim (lost.refused below) [
+          elim (lost.refused) [
             | inl put ↦ inl (ap (λ (l : OnLinks). l.put_refused) is ∙ put)
             | inr take ↦ inr (ap (λ (l : OnLinks). l.take_refused) is ∙ take)
           ]
@@ -172,18 +169,18 @@ module _ {Identity : Type 0} (ports : List (SeenPort Identity)) (i : ℕ) (old n
 module _ {Identity : Type 0} (plan : SeenPlan) (given : List (SeenPort Identity)) (run : SeenRun Identity) where
   -- the wait for the bell was refused
   pub bell_stops : (bell : SeenBell) → bell.refused ≡ true → IsRunning plan given run
-      → IsStopped None (fault.Lost (length run.core.places)) plan given (record { manner = run.manner; core = run.core; ports = run.ports; bell = bell; journal = run.journal })
+      → IsStopped None (fault.LostBell (length run.core.places)) plan given (record { manner = run.manner; core = run.core; ports = run.ports; bell = bell; journal = run.journal })
   bell_stops bell refused running = record {
     state = running.state;
     has = same_state_of running.has;
     lists = λ i port at. stops-as_it_was (traffic_at running.state i) port (running.lists i port at);
     did = just_did running.did;
     breach = λ link breach e. absurd (cc);
-    lost = λ link e. (let same : length run.core.places ≡ link = cc in no_letter_lost link (omega (arith, same, running.has.stands.degree)));
-    lost_bell = λ e. inl refused;
-    take_reported = quiet_takes running.state run.ports (λ j. fault.Lost (length run.core.places) ≡ fault.Lost j) running.lists;
-    wait_reported = λ e. ap fault.Lost running.has.stands.degree;
-    ring_reported = quiet_rings running.state run.ports (ReportsRing (fault.Lost (length run.core.places)) (length running.state.traffic) run.journal) running.lists;
+    lost = λ link e. absurd (cc);
+    lost_bell = λ degree e. (let same : length run.core.places ≡ degree = cc in (omega (arith, same, running.has.stands.degree), inl refused));
+    take_reported = quiet_takes running.state run.ports (λ j. fault.LostBell (length run.core.places) ≡ fault.Lost j) running.lists;
+    wait_reported = λ e. ap fault.LostBell running.has.stands.degree;
+    ring_reported = quiet_rings running.state run.ports (ReportsRing (fault.LostBell (length run.core.places)) (length running.state.traffic) run.journal) running.lists;
     no_stray = λ e. refl;
     started = λ e. absurd (cc);
   } where
@@ -199,7 +196,7 @@ module _ {Identity : Type 0} (plan : SeenPlan) (given : List (SeenPort Identity)
     did = just_did running.did;
     breach = λ link breach e. absurd (cc);
     lost = λ link e. absurd (cc);
-    lost_bell = λ e. absurd (cc);
+    lost_bell = λ degree e. absurd (cc);
     take_reported = quiet_takes running.state run.ports (λ j. fault.Memory ≡ fault.Lost j) running.lists;
     wait_reported = λ e. absurd (false≢true (sym running.heard ∙ e));
     ring_reported = quiet_rings running.state run.ports (ReportsRing fault.Memory (length running.state.traffic) run.journal) running.lists;
@@ -223,11 +220,11 @@ module _ {Identity : Type 0} (plan : SeenPlan) (given : List (SeenPort Identity)
             let same : i ≡ link = cc in
             record {
               within = omega (arith, same, inside);
-              refused = λ below. inr (ap (λ (n : ℕ). (links_at (set run.ports i (port_after_refused_take port)) n).take_refused) (sym same) ∙ ap (λ (l : OnLinks). l.take_refused) (new_links run.ports i port (port_after_refused_take port) at));
+              refused = inr (ap (λ (n : ℕ). (links_at (set run.ports i (port_after_refused_take port)) n).take_refused) (sym same) ∙ ap (λ (l : OnLinks). l.take_refused) (new_links run.ports i port (port_after_refused_take port) at));
               to_place = λ back is. absurd (none-some back is);
               no_close = λ back is. absurd (none-some back is);
             };
-        lost_bell = λ e. (let same : i ≡ length running.state.traffic = cc in absurd (omega (arith, same, inside)));
+        lost_bell = λ degree e. absurd (cc);
         take_reported = takes_reported run.ports i port (port_after_refused_take port) at (λ j. fault.Lost i ≡ fault.Lost j) (quiet_takes running.state run.ports (λ j. fault.Lost i ≡ fault.Lost j) running.lists) (λ e. refl);
         wait_reported = λ e. absurd (false≢true (sym running.heard ∙ e));
         ring_reported = rings_reported run.ports i port (port_after_refused_take port) at (ReportsRing (fault.Lost i) (length running.state.traffic) run.journal) (quiet_rings running.state run.ports (ReportsRing (fault.Lost i) (length running.state.traffic) run.journal) running.lists)
@@ -254,11 +251,11 @@ module _ {Identity : Type 0} (plan : SeenPlan) (given : List (SeenPort Identity)
             let same : i ≡ link = cc in
             record {
               within = omega (arith, same, inside);
-              refused = λ below. inl (ap (λ (n : ℕ). (links_at (set run.ports i (port_after_refusal port)) n).put_refused) (sym same) ∙ ap (λ (l : OnLinks). l.put_refused) (new_links run.ports i port (port_after_refusal port) at));
-              to_place = λ back is. (ap (λ (b : Stray). b.link) (the_stray back is) ∙ same, omega (arith, same, inside));
+              refused = inl (ap (λ (n : ℕ). (links_at (set run.ports i (port_after_refusal port)) n).put_refused) (sym same) ∙ ap (λ (l : OnLinks). l.put_refused) (new_links run.ports i port (port_after_refusal port) at));
+              to_place = λ back is. ap (λ (b : Stray). b.link) (the_stray back is) ∙ same;
               no_close = λ back is. ap (λ (b : Stray). is_close b.letter) (the_stray back is) ∙ other;
             };
-        lost_bell = λ e. (let same : i ≡ length (with_put i l putting.before).traffic = cc in absurd (omega (arith, same, inside)));
+        lost_bell = λ degree e. absurd (cc);
         take_reported = takes_reported run.ports i port (port_after_refusal port) at (λ j. fault.Lost i ≡ fault.Lost j) (quiet_takes putting.before run.ports (λ j. fault.Lost i ≡ fault.Lost j) putting.lists) (λ e. refl);
         wait_reported = λ e. absurd (false≢true (sym putting.heard ∙ e));
         ring_reported = rings_reported run.ports i port (port_after_refusal port) at (ReportsRing (fault.Lost i) (length (with_put i l putting.before).traffic) run.journal) (quiet_rings putting.before run.ports (ReportsRing (fault.Lost i) (length (with_put i l putting.before).traffic) run.journal) putting.lists)
@@ -285,11 +282,11 @@ module _ {Identity : Type 0} (plan : SeenPlan) (given : List (SeenPort Identity)
             let same : i ≡ link = cc in
             record {
               within = omega (arith, same, inside);
-              refused = λ below. inl (ap (λ (n : ℕ). (links_at (set run.ports i (port_after_refusal port)) n).put_refused) (sym same) ∙ ap (λ (l : OnLinks). l.put_refused) (new_links run.ports i port (port_after_refusal port) at));
+              refused = inl (ap (λ (n : ℕ). (links_at (set run.ports i (port_after_refusal port)) n).put_refused) (sym same) ∙ ap (λ (l : OnLinks). l.put_refused) (new_links run.ports i port (port_after_refusal port) at));
               to_place = λ back is. absurd (none-some back is);
               no_close = λ back is. absurd (none-some back is);
             };
-        lost_bell = λ e. (let same : i ≡ length (with_put i letter.Close putting.before).traffic = cc in absurd (omega (arith, same, inside)));
+        lost_bell = λ degree e. absurd (cc);
         take_reported = takes_reported run.ports i port (port_after_refusal port) at (λ j. fault.Lost i ≡ fault.Lost j) (quiet_takes putting.before run.ports (λ j. fault.Lost i ≡ fault.Lost j) putting.lists) (λ e. refl);
         wait_reported = λ e. absurd (false≢true (sym putting.heard ∙ e));
         ring_reported = rings_reported run.ports i port (port_after_refusal port) at (ReportsRing (fault.Lost i) (length (with_put i letter.Close putting.before).traffic) run.journal) (quiet_rings putting.before run.ports (ReportsRing (fault.Lost i) (length (with_put i letter.Close putting.before).traffic) run.journal) putting.lists)
@@ -301,20 +298,20 @@ module _ {Identity : Type 0} (plan : SeenPlan) (given : List (SeenPort Identity)
   -- a letter was put, and the bell refused the ring
   module _ (i : ℕ) (l : Letter) (putting : IsPutting i l plan given run) (port new : SeenPort Identity) (at : slice_get run.ports i ≡ Some port)
       (links : SameLinks port new) (stops : StopsAt None None (record (traffic_at putting.before i) { put = (traffic_at putting.before i).put ++ l ∷ [] }) new) (refused : new.ringer.refused ≡ true) (took : new.rx.refused ≡ port.rx.refused) where
-    pub unheard_stops : IsStopped None (fault.Lost (length run.core.places)) plan given (record { manner = run.manner; core = run.core; ports = set run.ports i new; bell = run.bell; journal = run.journal })
+    pub unheard_stops : IsStopped None (fault.LostBell (length run.core.places)) plan given (record { manner = run.manner; core = run.core; ports = set run.ports i new; bell = run.bell; journal = run.journal })
     unheard_stops = record {
       state = with_put i l putting.before;
       has = has-port plan given run (with_put i l putting.before) i port new putting.has at links.tx links.rx links.bell links.number;
       lists = at-set (λ j. RunsAt) (λ j. StopsAt None None) putting.before (with_put i l putting.before) i _ refl putting.within run.ports new putting.lists stops (λ j t p ne h. stops-as_it_was t p h);
       did = just_did putting.did;
       breach = λ link breach e. absurd (cc);
-      lost = λ link e. (let same : length run.core.places ≡ link = cc in no_letter_lost link (omega (arith, same, putting.has.stands.degree)));
-      lost_bell = λ e. inr (i, new, get-set_same run.ports i port new at, refused);
-      take_reported = takes_reported run.ports i port new at (λ j. fault.Lost (length run.core.places) ≡ fault.Lost j) (quiet_takes putting.before run.ports (λ j. fault.Lost (length run.core.places) ≡ fault.Lost j) putting.lists)
+      lost = λ link e. absurd (cc);
+      lost_bell = λ degree e. (let same : length run.core.places ≡ degree = cc in (omega (arith, same, putting.has.stands.degree), inr (i, new, get-set_same run.ports i port new at, refused)));
+      take_reported = takes_reported run.ports i port new at (λ j. fault.LostBell (length run.core.places) ≡ fault.Lost j) (quiet_takes putting.before run.ports (λ j. fault.LostBell (length run.core.places) ≡ fault.Lost j) putting.lists)
           (λ e. absurd (false≢true (sym (putting.lists i port at).unrefused.take ∙ sym took ∙ e)));
       wait_reported = λ e. absurd (false≢true (sym putting.heard ∙ e));
-      ring_reported = rings_reported run.ports i port new at (ReportsRing (fault.Lost (length run.core.places)) (length (with_put i l putting.before).traffic) run.journal) (quiet_rings putting.before run.ports (ReportsRing (fault.Lost (length run.core.places)) (length (with_put i l putting.before).traffic) run.journal) putting.lists)
-          (λ e. inl (ap fault.Lost putting.has.stands.degree));
+      ring_reported = rings_reported run.ports i port new at (ReportsRing (fault.LostBell (length run.core.places)) (length (with_put i l putting.before).traffic) run.journal) (quiet_rings putting.before run.ports (ReportsRing (fault.LostBell (length run.core.places)) (length (with_put i l putting.before).traffic) run.journal) putting.lists)
+          (λ e. inl (ap fault.LostBell putting.has.stands.degree));
       no_stray = λ e. refl;
       started = λ e. absurd (cc);
     }
@@ -344,7 +341,7 @@ module _ {Identity : Type 0} (plan : SeenPlan) (given : List (SeenPort Identity)
               first = ap (λ (n : ℕ). first_breach plan run.core.site running.state n l) (sym same) ∙ first ∙ ap (λ (b : Breach). Some b) cause;
             };
         lost = λ link e. absurd (cc);
-        lost_bell = λ e. absurd (cc);
+        lost_bell = λ degree e. absurd (cc);
         take_reported = takes_reported run.ports i port (port_after_take m l port) at (λ j. fault.Breach i reported ≡ fault.Lost j) (quiet_takes running.state run.ports (λ j. fault.Breach i reported ≡ fault.Lost j) running.lists)
             (λ e. absurd (false≢true (sym (running.lists i port at).unrefused.take ∙ e)));
         wait_reported = λ e. absurd (false≢true (sym running.heard ∙ e));
@@ -405,9 +402,9 @@ module _ {Identity : Type 0} (plan : SeenPlan) (given : List (SeenPort Identity)
           did = broke_more;
           breach = reported;
           lost = λ link e. subst (λ (n : ℕ). IsLost n (links_at (set run.ports i new)) stray link) (sym same) (lost_still run.ports i port new at keeps stray link (stopped.lost link e));
-          lost_bell = λ e. bell_still run.ports i port new at keeps run.bell (stopped.lost_bell (e ∙ ap fault.Lost same));
+          lost_bell = λ degree e. (let was = stopped.lost_bell degree e in (was.0 ∙ sym same, bell_still run.ports i port new at keeps run.bell was.1));
           take_reported = takes_reported run.ports i port new at (λ j. cause ≡ fault.Lost j) stopped.take_reported (λ e. stopped.take_reported i port at (sym keeps.take ∙ e));
-          wait_reported = λ e. stopped.wait_reported e ∙ ap fault.Lost (sym same);
+          wait_reported = λ e. stopped.wait_reported e ∙ ap fault.LostBell (sym same);
           ring_reported = λ j p there e. subst (λ (n : ℕ). ReportsRing cause n run.journal j p) (sym same)
               (rings_reported run.ports i port new at (ReportsRing cause (length stopped.state.traffic) run.journal) stopped.ring_reported rings j p there e);
           no_stray = stopped.no_stray;
@@ -445,7 +442,7 @@ module _ {Identity : Type 0} (plan : SeenPlan) (given : List (SeenPort Identity)
         (λ e. subst (ReportsRing cause (length stopped.state.traffic) run.journal i) (sym is) (unheard_ring m port.ringer.refused refl))
 
     -- what the link has is no more than the core put
-    pub break_room : ((plan : SeenPlan) (s : ℕ) (state : LocalState) (j : ℕ) → IsPlan plan → s < site_count plan → KeepsStreams plan s state → j < length state.traffic → length (traffic_at state j).put ≤ 2003)
+    pub break_room : ((plan : SeenPlan) (s : ℕ) (state : LocalState) (j : ℕ) → IsPlan plan → s < site_count plan → KeepsStreams plan s state → j < length state.traffic → length (traffic_at state j).put ≤ 2 * MAX_JOBS + 3)
         → length port.tx.letters < 2 ^ 61
     break_room few =
         let bound = few plan run.core.site stopped.state i stopped.has.is_plan stopped.has.is_site stopped.has.keeps room.0 in

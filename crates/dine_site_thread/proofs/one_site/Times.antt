@@ -7,7 +7,9 @@ use Rattle.std.proofs.lemmas.Option.{same_Some}
 use Rattle.dine_rules.specs.Moments.{last_moment}
 use Rattle.dine_rules.specs.declared.events.EventKind.{EventKind}
 use Rattle.dine_rules.specs.declared.letters.Letter.{Letter}
-use Rattle.dine_rules.specs.Steps.{Shape, Takes, Puts, Alone, shape_of}
+use Rattle.dine_rules.specs.declared.events.Shape.{Shape}
+use Rattle.dine_rules.specs.declared.events.Shape.TheVariants.{Takes, Puts, Alone}
+use Rattle.dine_rules.specs.Steps.{shape_of}
 use Rattle.dine_site_thread.specs.Ports.{IsFreshPort, SeenPort}
 use Rattle.dine_site_thread.specs.private.PortSteps.{port_after_take}
 use Rattle.dine_rules.specs.Timed.{Rise, is_put_at, is_take_at, moments_of}

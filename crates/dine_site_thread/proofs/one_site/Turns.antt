@@ -59,7 +59,7 @@ own_turn manner next (Done i) is = is
 own_turn manner next (Close i) is = is
 own_turn manner next (Break i) is = is
 own_turn Eager next (Take i l) is = is
-own_turn Greedy next (Take i l) is = is
+own_turn Greedy next (Take i l) is = inl is
 own_turn (Patient k) next (Take i l) is = inl is
 own_turn (OnCall k) next (Take i l) is = inl is
 

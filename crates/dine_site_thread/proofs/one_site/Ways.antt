@@ -1,8 +1,9 @@
 -- A site goes on its way: each event leaves it running.
-use Rattle.std.proofs.Common.{◌≡◌, ℕ, zero, suc, ◌+◌, ◌<◌, ◌≤◌, ◌^◌, Bool, true, false, List, [], ◌∷◌, ◌++◌, length, map, set, get_or, Option, Some, None, refl, sym, ◌∙◌, ap, subst, arith, length-append, length-set}
+use Rattle.std.proofs.Common.{◌≡◌, ℕ, zero, suc, ◌+◌, ◌*◌, ◌<◌, ◌≤◌, ◌^◌, Bool, true, false, List, [], ◌∷◌, ◌++◌, length, map, set, get_or, Option, Some, None, refl, sym, ◌∙◌, ap, subst, arith, length-append, length-set}
 use Rattle.std.specs.List.{slice_get, All}
 use Rattle.std.proofs.lemmas.Option.{slice_get_within}
 use Rattle.std.proofs.lemmas.List.{get_or-set_same}
+use Rattle.dine_token.specs.declared.limits.TheConstants.{MAX_JOBS}
 use Rattle.dine_graph.specs.Plan.{SeenPlan, IsPlan, site_count, edges_of}
 use Rattle.dine_rules.specs.declared.events.EventKind.{EventKind}
 use Rattle.dine_rules.specs.declared.events.EventKind.TheVariants as event
@@ -49,13 +50,13 @@ module _ {Identity : Type 0} (plan : SeenPlan) (given : List (SeenPort Identity)
     pub put_live : port.is_live ≡ true
     put_live = live_where_open (traffic_at putting.before i) port (putting.lists i port at) putting.open_place
 
-    pub put_room : ((plan : SeenPlan) (s : ℕ) (state : LocalState) (j : ℕ) → IsPlan plan → s < site_count plan → KeepsStreams plan s state → j < length state.traffic → length (traffic_at state j).put ≤ 2003)
+    pub put_room : ((plan : SeenPlan) (s : ℕ) (state : LocalState) (j : ℕ) → IsPlan plan → s < site_count plan → KeepsStreams plan s state → j < length state.traffic → length (traffic_at state j).put ≤ 2 * MAX_JOBS + 3)
         → length port.tx.letters < 2 ^ 61
     put_room few =
         let traffic = traffic_at putting.before i in
         let after_it : traffic_at (with_put i l putting.before) i ≡ record traffic { put = traffic.put ++ l ∷ [] } = get_or-set_same putting.before.traffic i (record traffic { put = traffic.put ++ l ∷ [] }) no_traffic putting.within in
         let within : i < length (with_put i l putting.before).traffic = omega (arith, slice_get_within run.ports i port at, putting.has.places, putting.has.stands.degree) in
-        let bound : length (traffic_at (with_put i l putting.before) i).put ≤ 2003 = few plan run.core.site (with_put i l putting.before) i putting.has.is_plan putting.has.is_site putting.has.keeps within in
+        let bound : length (traffic_at (with_put i l putting.before) i).put ≤ 2 * MAX_JOBS + 3 = few plan run.core.site (with_put i l putting.before) i putting.has.is_plan putting.has.is_site putting.has.keeps within in
         let grown : length (traffic_at (with_put i l putting.before) i).put ≡ length traffic.put + 1 = ap (λ (t : Traffic). length t.put) after_it ∙ length-append traffic.put (l ∷ []) in
         omega (arith, bound, grown, ap (λ (xs : List Letter). length xs) (putting.lists i port at).puts)
 
@@ -88,7 +89,7 @@ module _ {Identity : Type 0} (plan : SeenPlan) (given : List (SeenPort Identity)
         (did_step grows plan given run running (event.Take i) (Take i l) core false (λ j. Some l) refl refl (next plan running.state running.has.keeps running.has.stands) (steps plan running.state running.has.keeps running.has.stands));
   }
 
-  pub take_room : ((plan : SeenPlan) (s : ℕ) (state : LocalState) (j : ℕ) → IsPlan plan → s < site_count plan → KeepsStreams plan s state → j < length state.traffic → length (traffic_at state j).taken ≤ 2003)
+  pub take_room : ((plan : SeenPlan) (s : ℕ) (state : LocalState) (j : ℕ) → IsPlan plan → s < site_count plan → KeepsStreams plan s state → j < length state.traffic → length (traffic_at state j).taken ≤ 2 * MAX_JOBS + 3)
       → IsRunning plan given run → (i : ℕ) → i < length run.core.places → (port : SeenPort Identity) → slice_get run.ports i ≡ Some port → length port.rx.letters < 2 ^ 61
   take_room few running i within port at =
       let bound = few plan run.core.site running.state i running.has.is_plan running.has.is_site running.has.keeps (place_within running i within) in

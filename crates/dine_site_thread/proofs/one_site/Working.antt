@@ -1,5 +1,5 @@
 -- The log of a thread goes on turn by turn.
-use Rattle.std.proofs.Common.{◌≡◌, ℕ, Bool, true, false, List, [], ◌∷◌, ◌++◌, map, Option, Some, None, refl, sym, ◌∙◌, ap, ap₂, subst}
+use Rattle.std.proofs.Common.{◌≡◌, ℕ, Bool, true, List, [], ◌∷◌, ◌++◌, map, Option, Some, None, refl, sym, ◌∙◌, ap, ap₂, subst}
 use Rattle.std.proofs.lemmas.List.{append_assoc, append-nil, map-append}
 use Rattle.dine_graph.specs.Plan.{SeenPlan}
 use Rattle.dine_rules.specs.declared.events.EventKind.{EventKind}
@@ -89,8 +89,8 @@ meal_led plan s t state failed same begins ends =
     (begins, (subst (λ (n : ℕ). may plan n (after plan s state Begin) (End failed) ≡ true) same ends, ap (λ (n : ℕ). after plan n (after plan s state Begin) (End failed)) (sym same)))
 
 -- what the log has after a meal
-pub meal_logged : (manner : Manner) (memo : Memo) (before old first second : List Deed) → old ≡ before ++ checking manner memo.skips → first ≡ old ++ Did event.Begin ∷ [] → second ≡ first ++ Did event.End ∷ [] → (failed : Bool) → second ≡ before ++ deeds_of manner memo (Eats failed)
+pub meal_logged : (manner : Manner) (memo : Memo) (before old first second : List Deed) → old ≡ before ++ checking manner memo.tally → first ≡ old ++ Did event.Begin ∷ [] → second ≡ first ++ Did event.End ∷ [] → (failed : Bool) → second ≡ before ++ deeds_of manner memo (Eats failed)
 meal_logged manner memo before old first second checked begun ended failed =
-    let check : List Deed = checking manner memo.skips in
+    let check : List Deed = checking manner memo.tally in
     ended ∙ ap (λ (ds : List Deed). ds ++ Did event.End ∷ []) (begun ∙ ap (λ (ds : List Deed). ds ++ Did event.Begin ∷ []) checked)
     ∙ append_assoc (before ++ check) (Did event.Begin ∷ []) (Did event.End ∷ []) ∙ append_assoc before check (Did event.Begin ∷ Did event.End ∷ [])

@@ -1,6 +1,6 @@
 -- A site while it runs: what holds of its core and its link ends between two of its events, before a letter is put,
 -- after its first fault, and at its end; and what stays the same.
-use Rattle.std.specs.Prelude.{◌≡◌, ◌≢◌, ◌⊎◌, ℕ, zero, suc, ◌+◌, ◌-◌, ◌<◌, ◌≤◌, ◌++◌, ◌&&◌, ◌||◌, not, nat_lt, Bool, true, false, List, [], ◌∷◌, length, slice_get, Option, Some, None, option_to_list, Result, MatchResult, vec_len, ◌==◌, if◌then◌else◌, slice_set, OnOk}
+use Rattle.std.specs.Prelude.{◌≡◌, ◌≢◌, ◌⊎◌, ℕ, ◌+◌, ◌<◌, ◌≤◌, ◌++◌, ◌&&◌, ◌||◌, not, nat_lt, Bool, true, false, List, [], ◌∷◌, length, slice_get, Option, Some, None, option_to_list, Result, MatchResult, vec_len, ◌==◌, if◌then◌else◌, slice_set, OnOk}
 use Rattle.dine_graph.specs.Plan.{SeenPlan, IsPlan, site_count}
 use Rattle.dine_rules.specs.declared.breach.Breach.{Breach}
 use Rattle.dine_rules.specs.declared.events.EventKind.{EventKind}
@@ -27,8 +27,7 @@ use Rattle.dine_link.specs.Deeds.{hearing, ringing}
 use Rattle.dine_site_thread.specs.Threads.{HasWorked, MayHaveSlept, Memo, checking, first_that_matters}
 use Rattle.dine_site_thread.specs.Diners.{HasEaten}
 use Rattle.dine_site_thread.specs.declared.manner.Manner.{Manner}
-use Rattle.dine_site_thread.specs.declared.manner.Manner.TheVariants.{Eager, Greedy, Patient, OnCall}
-use Rattle.dine_site_thread.specs.Doings.{HasActed, HasDone, MayTakeBefore, begins_from, empty_checks_of, is_checking, is_on_call, skips_after, skips_then}
+use Rattle.dine_site_thread.specs.Doings.{HasActed, HasDone, MayTakeBefore, begins_from, empty_checks_of, is_checking, is_on_call, tally_after, tally_then}
 use Rattle.dine_site_thread.specs.Ports.{BrokeOffUnheard, HasRung, IsUnrefused, SeenPort, SameLinks, PutsFit, seen_ports}
 use Rattle.dine_rules.specs.Moments.{last_moment}
 use Rattle.dine_site_thread.specs.Times.{IsTimed, none_late}
@@ -111,10 +110,10 @@ pub record IsStopped {Identity : Type 0} (stray : Option Stray) (cause : SiteFau
   pub did : HasDone run.manner plan run.core.site run.journal state
   pub breach : (link : ℕ) (breach : Breach) → cause ≡ fault.Breach link breach → IsBreached plan run.core.site state stray link breach
   pub lost : (link : ℕ) → cause ≡ fault.Lost link → IsLost (length state.traffic) (links_at run.ports) stray link
-  pub lost_bell : cause ≡ fault.Lost (length state.traffic) → HasBellRefused run.ports run.bell
+  pub lost_bell : (degree : ℕ) → cause ≡ fault.LostBell degree → (degree ≡ length state.traffic) × HasBellRefused run.ports run.bell
   pub take_reported : (i : ℕ) (port : SeenPort Identity) → slice_get run.ports i ≡ Some port → port.rx.refused ≡ true → cause ≡ fault.Lost i
-  pub wait_reported : run.bell.refused ≡ true → cause ≡ fault.Lost (length state.traffic)
-  pub ring_reported : (i : ℕ) (port : SeenPort Identity) → slice_get run.ports i ≡ Some port → port.ringer.refused ≡ true → (cause ≡ fault.Lost (length state.traffic)) ⊎ BrokeOffUnheard i run.journal port
+  pub wait_reported : run.bell.refused ≡ true → cause ≡ fault.LostBell (length state.traffic)
+  pub ring_reported : (i : ℕ) (port : SeenPort Identity) → slice_get run.ports i ≡ Some port → port.ringer.refused ≡ true → (cause ≡ fault.LostBell (length state.traffic)) ⊎ BrokeOffUnheard i run.journal port
   pub no_stray : hands_back (Some cause) ≡ false → stray ≡ None
   pub started : cause ≢ fault.NotStarted
 
@@ -126,16 +125,13 @@ IsNext next core = ForEachState core (λ plan state. next_event plan core.site s
 abbrev pub MayTakeNow : Manner → SeenCore → Type 0
 MayTakeNow manner core = ForEachState core (λ plan state. MayTakeBefore manner (next_event plan core.site state))
 
--- how many meals a site of this manner is to begin without a check, by its journal
-abbrev pub skips_by : Manner → List EventKind → ℕ
-skips_by Eager journal = 0
-skips_by Greedy journal = 0
-skips_by (Patient k) journal = skips_after k 0 (begins_from 0 journal)
-skips_by (OnCall k) journal = skips_after k 0 (begins_from 0 journal)
+-- the tally of a site of this manner, by its journal
+abbrev pub tally_by : Manner → List EventKind → ℕ
+tally_by manner journal = tally_after manner 0 (begins_from 0 journal)
 
 -- the bell once a site of this manner that did this number of events found no ring left, if it checked
 abbrev pub checked_by : Manner → ℕ → ℕ → SeenBell → SeenBell
-checked_by manner skips events bell = if is_checking manner skips then after_empty_check events bell else bell
+checked_by manner tally events bell = if is_checking manner tally then after_empty_check events bell else bell
 
 -- Close is put at each of the places below i
 abbrev pub ClosedBelow : ℕ → SeenCore → Type 0
@@ -249,16 +245,16 @@ module _ {Lane Tx Closed Rx Diner : Type 0} (lane : Ghosts Lane Tx Closed Rx) (d
     pub expects : (plan : SeenPlan) (site : ℕ) → diner.expects old.diner plan site → diner.expects new.diner plan site
 
 -- After these first checks, the bell had no ring left just when a site of this manner checks it, by the site's journal;
--- its clock has as many events as the journal; and it is to begin `skips` meals without a check.
-pub record AreChecks (first : List ℕ) (manner : Manner) (skips : ℕ) (found_empty : List ℕ) (events : List (EventKind × ℕ)) (journal : List EventKind) : Type 0 where
+-- its clock has as many events as the journal; and this is its tally.
+pub record AreChecks (first : List ℕ) (manner : Manner) (tally : ℕ) (found_empty : List ℕ) (events : List (EventKind × ℕ)) (journal : List EventKind) : Type 0 where
   pub checks : found_empty ≡ first ++ empty_checks_of manner journal
   pub noted : length events ≡ length journal
-  pub left : skips ≡ skips_by manner journal
+  pub left : tally ≡ tally_by manner journal
 
 module _ {Lane Tx Closed Rx Diner : Type 0} where
   -- after these first checks its bell had no ring left just when its manner says, by its journal
   abbrev pub HasChecked : List ℕ → Running Lane Diner Tx Closed Rx → Type 0
-  HasChecked first run = AreChecks first run.manner run.skips run.bell.found_empty run.clock.events run.journal.items
+  HasChecked first run = AreChecks first run.manner run.tally run.bell.found_empty run.clock.events run.journal.items
 
   -- if it was so, it is so still
   abbrev pub ChecksOn : Running Lane Diner Tx Closed Rx → Running Lane Diner Tx Closed Rx → Type 0
@@ -295,8 +291,8 @@ IsToRing i letter plan given run memo deeds = (putting : IsPutting i letter plan
 -- none of the letters that it put off matters. It has counted the meal.
 abbrev pub IsToEat : {Identity : Type 0} → SeenPlan → List (SeenPort Identity) → SeenRun Identity → Memo → List Deed → Type 0
 IsToEat plan given run memo deeds = (running : IsRunning plan given run) × (old : Memo) × (before : List Deed) × HasWorked run.manner plan run.core.site run.journal running.state old before
-    × (is_checking run.manner old.skips ≡ true → first_that_matters plan run.core.site running.state old ≡ None)
-    × (deeds ≡ before ++ checking run.manner old.skips) × (memo ≡ record old { skips = skips_then run.manner old.skips })
+    × (is_checking run.manner old.tally ≡ true → first_that_matters plan run.core.site running.state old ≡ None)
+    × (deeds ≡ before ++ checking run.manner old.tally) × (memo ≡ record old { tally = tally_then run.manner old.tally })
 
 -- The thread has heard a ring for place i since its last turn, and may have slept before.
 abbrev pub HasHeardAt : {Identity : Type 0} → ℕ → SeenPlan → List (SeenPort Identity) → SeenRun Identity → Memo → List Deed → Type 0
@@ -320,7 +316,7 @@ Stage Identity = SeenPlan → List (SeenPort Identity) → SeenRun Identity → 
 module _ {Lane Tx Closed Rx Diner : Type 0} where
   -- what the thread remembers beside the state of its site
   abbrev pub memo_of : Running Lane Diner Tx Closed Rx → Memo
-  memo_of run = record { put_off = run.put_off; skips = run.skips }
+  memo_of run = record { put_off = run.put_off; tally = run.tally }
 
 -- In each state that the core represents, the site can do nothing without a letter, or it is on call and may only grow
 -- hungry.

@@ -12,7 +12,7 @@ ghost use Rattle.dine_site.specs.CoreWants.{can_put_off_by_lists, wants_by_lists
 ghost use Rattle.dine_link.specs.Closing.{is_close};
 ghost use Rattle.dine_link.specs.Bells.{after_report};
 ghost use Rattle.dine_link.specs.Waking.{seen_wants};
-ghost use Rattle.dine_site_thread.specs.Doings.{is_checking, is_on_call, puts_letters_off, skips_then};
+ghost use Rattle.dine_site_thread.specs.Doings.{is_checking, is_on_call, puts_letters_off, tally_then};
 ghost use Rattle.dine_site_thread.specs.Ports.{SeenPort, seen_ports};
 ghost use Rattle.dine_site_thread.specs.private.PortSteps.{ChangesAt, LogsClose, SendsClose};
 ghost use Rattle.dine_site_thread.specs.SiteEnds.{IsSiteEnd, seen_site_end};
@@ -28,7 +28,7 @@ ghost use Rattle.dine_site_thread.specs.Threads.{checking};
 ghost use Rattle.dine_link.specs.declared.deed.Deed.TheVariants.{Did, Heard};
 
 use crate::diner::Diner;
-use crate::manner::Manner;
+use crate::manner::{FIRST_CHECK, Manner};
 use crate::port::{Closed, Port, Sent};
 use crate::site_end::{SiteEnd, SiteFault, Stray};
 use dine_link::{Bell, Lane, Lost, ThreadLog, Wants};
@@ -45,8 +45,8 @@ pub struct Stop {
 }
 
 // A site with its manner, its link ends, its bell, its diner, how many jobs of its meals failed, what it did, the log
-// of its thread, the places that rang and whose letter it has put off, and how many meals it is to begin without a
-// check of its bell.
+// of its thread, the places that rang and whose letter it has put off, and its tally: how many meals it is to begin
+// without a check of its bell or, if it is greedy, how many it has begun.
 pub struct Running<L: Lane, D: Diner> {
     manner: Manner,
     core: SiteCore,
@@ -58,7 +58,7 @@ pub struct Running<L: Lane, D: Diner> {
     clock: Clock,
     log: ThreadLog,
     put_off: BitSet64,
-    skips: u32,
+    tally: u32,
 }
 
 impl<L: Lane, D: Diner> Running<L, D> {
@@ -83,7 +83,7 @@ impl<L: Lane, D: Diner> Running<L, D> {
           clock = clock;
           log = log;
           put_off = replicate 64 false;
-          skips = 0;
+          tally = 0;
         } }
     {
         Running {
@@ -97,7 +97,7 @@ impl<L: Lane, D: Diner> Running<L, D> {
             clock,
             log,
             put_off: BitSet64::empty(),
-            skips: 0,
+            tally: 0,
         }
     }
 
@@ -278,7 +278,7 @@ impl<L: Lane, D: Diner> Running<L, D> {
         ensures checks { ChecksOn self.old self.new }
         ensures works { WorksOn L.Lane IsWorking result self.old self.new }
     {
-        match recall_before_meal(self.manner, self.skips, &self.core, &mut self.put_off) {
+        match recall_before_meal(self.manner, self.tally, &self.core, &mut self.put_off) {
             Some(place) => self.take_recalled(rt, place),
             None => self.begin_meal(rt),
         }
@@ -291,7 +291,7 @@ impl<L: Lane, D: Diner> Running<L, D> {
         requires may { can_by_itself self.old.core EventKind.Begin ≡ true }
         requires next { IsNext (Some EventKind.Begin) self.old.core }
         requires room { vec_len self.old.journal + 2 ≤ vec_capacity self.old.journal }
-        requires recalled { is_checking self.old.manner self.old.skips ≡ true
+        requires recalled { is_checking self.old.manner self.old.tally ≡ true
             → MattersFirst self.old.core (memo_of self.old) None }
         ensures proceeds { Proceeds L.Lane D.Diner (GoesOn result) self.old self.new }
         ensures timed { OnOk result (IsTimedRun L.Lane self.old → IsTimedRun L.Lane self.new) }
@@ -311,24 +311,24 @@ impl<L: Lane, D: Diner> Running<L, D> {
     // returns none, it has counted the meal.
     fn check_bell<R: Wait>(&mut self, rt: &R) -> Option<u32>
         ensures rest { self.new
-            ≡ record self.old { bell = self.new.bell; skips = self.new.skips; log = self.new.log } }
-        ensures checking { IfSome result (λ _. is_checking self.old.manner self.old.skips ≡ true) }
+            ≡ record self.old { bell = self.new.bell; tally = self.new.tally; log = self.new.log } }
+        ensures checking { IfSome result (λ _. is_checking self.old.manner self.old.tally ≡ true) }
         ensures bell { MatchOption result
-            (self.new.bell ≡ checked_by self.old.manner self.old.skips (length self.old.clock.events) self.old.bell)
+            (self.new.bell ≡ checked_by self.old.manner self.old.tally (length self.old.clock.events) self.old.bell)
             (λ i. self.new.bell ≡ after_report i self.old.bell) }
-        ensures skips { MatchOption result
-            (self.new.skips ≡ skips_then self.old.manner self.old.skips)
-            (λ _. self.new.skips ≡ self.old.skips) }
+        ensures tally { MatchOption result
+            (self.new.tally ≡ tally_then self.old.manner self.old.tally)
+            (λ _. self.new.tally ≡ self.old.tally) }
         ensures log { MatchOption result
-            (self.new.log.deeds ≡ self.old.log.deeds ++ checking self.old.manner self.old.skips)
+            (self.new.log.deeds ≡ self.old.log.deeds ++ checking self.old.manner self.old.tally)
             (λ i. self.new.log.deeds ≡ self.old.log.deeds ++ Heard i ∷ []) }
     {
         let mut place = None;
-        if is_checking(self.manner, self.skips) {
+        if is_checking(self.manner, self.tally) {
             place = self.bell.check(rt, &self.clock, &mut self.log);
         }
         if place.is_none() {
-            self.skips = skips_then(self.manner, self.skips);
+            self.tally = tally_then(self.manner, self.tally);
         }
         place
     }
@@ -344,7 +344,7 @@ impl<L: Lane, D: Diner> Running<L, D> {
         ensures bell { self.new.bell ≡ self.old.bell }
         ensures journal { self.new.journal.items ≡ self.old.journal.items ++ EventKind.Begin ∷ EventKind.End ∷ [] }
         ensures noted { length self.new.clock.events ≡ length self.old.clock.events + 2 }
-        ensures skips { self.new.skips ≡ self.old.skips }
+        ensures tally { self.new.tally ≡ self.old.tally }
         ensures works { WorksOn L.Lane IsToEat (Ok tt) self.old self.new }
     {
         laws::journals_grow_by_each_event();
@@ -411,10 +411,12 @@ impl<L: Lane, D: Diner> Running<L, D> {
 
     // Returns the fault of a ring or a wait that was refused.
     fn lost_bell(&self) -> Stop
-        ensures { result ≡ record { fault = SiteFault.Lost (length self.now.core.places); stray = None } }
+        ensures { result ≡ record { fault = SiteFault.LostBell (length self.now.core.places); stray = None } }
     {
         Stop {
-            fault: SiteFault::Lost(self.core.degree()),
+            fault: SiteFault::LostBell {
+                degree: self.core.degree(),
+            },
             stray: None,
         }
     }
@@ -619,7 +621,7 @@ impl<L: Lane, D: Diner> Running<L, D> {
             clock,
             log,
             put_off: _,
-            skips: _,
+            tally: _,
         } = self;
         let site = core.site();
         let ate = core.ate();
@@ -658,7 +660,7 @@ fn note(journal: &mut Vec<EventKind>, clock: &mut Clock, log: &mut ThreadLog, ki
 // Returns the first place whose letter was put off and matters now: the fork there has become dirty. It is put off no
 // longer.
 fn recall(core: &SiteCore, put_off: &mut BitSet64) -> Option<u32>
-    ensures first { MattersFirst core.now (record { put_off = put_off.old; skips = 0 }) result }
+    ensures first { MattersFirst core.now (record { put_off = put_off.old; tally = 0 }) result }
     ensures recalled { MatchOption result
         (put_off.new ≡ put_off.old) (λ i. put_off.new ≡ slice_set put_off.old i false) }
 {
@@ -670,31 +672,31 @@ fn recall(core: &SiteCore, put_off: &mut BitSet64) -> Option<u32>
 // The same before a meal, if the site checks its bell before it.
 fn recall_before_meal(
     manner: Manner,
-    skips: u32,
+    tally: u32,
     core: &SiteCore,
     put_off: &mut BitSet64,
 ) -> Option<u32>
-    ensures none { result ≡ None → is_checking manner skips ≡ true
-        → MattersFirst core.now (record { put_off = put_off.old; skips = 0 }) None }
-    ensures some { IfSome result (λ i. (is_checking manner skips ≡ true)
-        × MattersFirst core.now (record { put_off = put_off.old; skips = 0 }) (Some i)) }
+    ensures none { result ≡ None → is_checking manner tally ≡ true
+        → MattersFirst core.now (record { put_off = put_off.old; tally = 0 }) None }
+    ensures some { IfSome result (λ i. (is_checking manner tally ≡ true)
+        × MattersFirst core.now (record { put_off = put_off.old; tally = 0 }) (Some i)) }
     ensures recalled { MatchOption result
         (put_off.new ≡ put_off.old) (λ i. put_off.new ≡ slice_set put_off.old i false) }
 {
-    if !is_checking(manner, skips) {
+    if !is_checking(manner, tally) {
         return None;
     }
     recall(core, put_off)
 }
 
-// Returns whether a site of this manner checks its bell before its next meal, if it is to begin `skips` meals without a
-// check.
-fn is_checking(manner: Manner, skips: u32) -> bool
-    ensures { result ≡ is_checking manner skips }
+// Returns whether a site of this manner checks its bell before its next meal, by its tally.
+fn is_checking(manner: Manner, tally: u32) -> bool
+    ensures { result ≡ is_checking manner tally }
 {
     match manner {
-        Manner::Eager | Manner::Greedy => false,
-        Manner::Patient(_) | Manner::OnCall(_) => skips == 0,
+        Manner::Eager => false,
+        Manner::Greedy => tally >= FIRST_CHECK && tally.is_power_of_two(),
+        Manner::Patient(_) | Manner::OnCall(_) => tally == 0,
     }
 }
 
@@ -705,14 +707,15 @@ fn is_on_call(manner: Manner) -> bool
     matches!(manner, Manner::OnCall(_))
 }
 
-// Returns how many meals it is to begin without a check after that meal.
-fn skips_then(manner: Manner, skips: u32) -> u32
-    ensures { result ≡ skips_then manner skips }
+// Returns the tally of a site of this manner after its next meal.
+fn tally_then(manner: Manner, tally: u32) -> u32
+    ensures { result ≡ tally_then manner tally }
 {
     match manner {
-        Manner::Eager | Manner::Greedy => 0,
-        Manner::Patient(k) | Manner::OnCall(k) if skips == 0 => k.saturating_sub(1),
-        Manner::Patient(_) | Manner::OnCall(_) => skips - 1,
+        Manner::Eager => 0,
+        Manner::Greedy => tally.saturating_add(1),
+        Manner::Patient(k) | Manner::OnCall(k) if tally == 0 => k.saturating_sub(1),
+        Manner::Patient(_) | Manner::OnCall(_) => tally - 1,
     }
 }
 

@@ -107,7 +107,7 @@ fn sent_fork(rt: &impl Abort, alloc: Global, edge: u32) -> Fork {
 }
 
 fn fork_sent_up(rt: &impl Abort, alloc: Global, jobs: u32) -> Fork {
-    assert!(rt; 1 <= jobs && jobs <= 2);
+    assert!(rt; 1 <= jobs && jobs <= 130);
     let fork = Fork::open(alloc, 0, 0, 1, 1, jobs, 0).expect(rt, "memory");
     Held::take(fork).give(1)
 }

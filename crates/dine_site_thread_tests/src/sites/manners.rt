@@ -7,6 +7,10 @@ use super::ends::finds_three;
 use super::*;
 use dine_site_thread::{Manner, run_site_with};
 use dine_test_diners::Taster;
+use std::alloc::AllocError;
+
+// The greatest number of jobs of a site here.
+const MOST: u32 = 130;
 
 // Two sites with an edge: the lower one has one job, and the higher one has two.
 const ONE_AND_TWO: &str = "version = 1\n\
@@ -57,21 +61,28 @@ fn runs_by<L: Lane, R: Wait + Abort>(
     requires unrefused { bell.refused ≡ false }
     requires unused { All IsFreshPort (seen_ports L.Lane ports.items) }
 {
-    let core = core_of(rt, alloc, plan, left.site);
+    let core = core_of(rt, alloc, plan, left.site, MOST);
     assert!(rt; core.degree() as usize == ports.len());
-    let diner = Taster::open(alloc, 2, 0).expect(rt, "memory");
+    let diner = Taster::open(alloc, MOST, 0).expect(rt, "memory");
     let end = run_site_with::<R, L, Taster>(rt, alloc, manner, core, ports, bell, diner);
     is_left(rt, end, left)
 }
 
-// The higher site was sent the fork, and then a request for it, before it starts. Then nobody rings any more. It leaves
-// this.
-fn is_asked<L: Lane, R: Wait + Abort>(rt: &R, alloc: Global, manner: Manner, left: &Left) -> L::Rx
+// The higher site of such a plan, which has so many jobs, was sent the fork, and then a request for it, before it
+// starts. Then nobody rings any more. It leaves this.
+fn is_asked<L: Lane, R: Wait + Abort>(
+    rt: &R,
+    alloc: Global,
+    manner: Manner,
+    text: &str,
+    jobs: u32,
+    left: &Left,
+) -> L::Rx
     ensures untaken { IsUnused (L.seen_rx result) }
 {
-    let plan = read_plan(alloc, ONE_AND_TWO).expect(rt, "a plan");
+    let plan = read_plan(alloc, text).expect(rt, "a plan");
     let letters = Letters {
-        first: Some(Put::SentUp(2)),
+        first: Some(Put::SentUp(jobs)),
         second: Some(Put::Request(0)),
         closes: false,
     };
@@ -103,8 +114,58 @@ fn leaves<L: Lane, R: Wait + Abort>(
     left: &Left,
     put: [LetterKind; 3],
 ) {
-    let rx = is_asked::<L, R>(rt, alloc, manner, left);
+    let rx = is_asked::<L, R>(rt, alloc, manner, ONE_AND_TWO, 2, left);
     finds_three::<L, R>(rt, rx, put)
+}
+
+// Two sites with an edge, of which the higher one has this number of jobs.
+fn one_and_many(alloc: Global, jobs: u32) -> Result<String, AllocError> {
+    let mut text = String::new(alloc);
+    text.push_str("version = 1\n[[site]]\nname = \"a\"\njobs = [{ name = \"x\" }]\n")?;
+    text.push_str("[[site]]\nname = \"b\"\njobs = [")?;
+    for _ in 0..jobs {
+        text.push_str("{ name = \"y\" },")?;
+    }
+    text.push_str("]\n[[edge]]\nends = [\"a\", \"b\"]\n")?;
+    Ok(text)
+}
+
+// The calls and the journal of a site that was asked before its first meal, looks for requests only after this number
+// of meals, and has jobs left then.
+fn eats_many(alloc: Global, meals: u32) -> Result<(Vec<Call>, Vec<EventKind>), AllocError> {
+    let mut calls = Vec::new(alloc);
+    let mut journal = Vec::new(alloc);
+    journal.extend_from_slice(&[EventKind::Hungry, EventKind::Ask(0), EventKind::Take(0)])?;
+    for k in 0..meals {
+        calls.push(Call { k: k + 1, ok: true })?;
+        journal.extend_from_slice(&[EventKind::Begin, EventKind::End, EventKind::Hungry])?;
+    }
+    journal.extend_from_slice(&[EventKind::Take(0), EventKind::Give(0), EventKind::Ask(0)])?;
+    Ok((calls, journal))
+}
+
+// The first check of a greedy site comes after 128 meals.
+#[test]
+fn a_greedy_site_gives_the_fork_after_many_meals(rt: HostRuntime) {
+    let alloc = rt.alloc();
+    let text = one_and_many(alloc, MOST).expect(&rt, "memory");
+    let (calls, journal) = eats_many(alloc, 128).expect(&rt, "memory");
+    let left = Left {
+        site: 1,
+        meals: (128, 0),
+        calls: calls.as_slice(),
+        forks: &[],
+        log: &[],
+        tokens: &[],
+        ports: (0, 1),
+        journal: journal.as_slice(),
+        stray: None,
+        fault: Some(SiteFault::LostBell { degree: 1 }),
+    };
+    let put = [LetterKind::Request, LetterKind::Fork, LetterKind::Request];
+    let (manner, text) = (Manner::Greedy, text.as_str());
+    let rx = is_asked::<RingLane, HostRuntime>(&rt, alloc, manner, text, MOST, &left);
+    finds_three::<RingLane, HostRuntime>(&rt, rx, put)
 }
 
 #[test]
@@ -119,7 +180,7 @@ fn a_polite_site_gives_the_fork_after_one_meal(rt: HostRuntime) {
         ports: (0, 1),
         journal: POLITE.as_slice(),
         stray: None,
-        fault: Some(SiteFault::Lost(1)),
+        fault: Some(SiteFault::LostBell { degree: 1 }),
     };
     let put = [LetterKind::Request, LetterKind::Fork, LetterKind::Request];
     leaves::<ChannelLane, HostRuntime>(&rt, rt.alloc(), Manner::Patient(1), &left, put);
@@ -140,7 +201,7 @@ fn a_patient_site_gives_the_fork_after_so_many_meals(rt: HostRuntime) {
         ports: (0, 1),
         journal: POLITE.as_slice(),
         stray: None,
-        fault: Some(SiteFault::Lost(1)),
+        fault: Some(SiteFault::LostBell { degree: 1 }),
     };
     let put = [LetterKind::Request, LetterKind::Fork, LetterKind::Request];
     leaves::<ChannelLane, HostRuntime>(&rt, rt.alloc(), Manner::Patient(1), &left, put);
@@ -154,7 +215,7 @@ fn a_patient_site_gives_the_fork_after_so_many_meals(rt: HostRuntime) {
         ports: (0, 1),
         journal: EAGER.as_slice(),
         stray: None,
-        fault: Some(SiteFault::Lost(1)),
+        fault: Some(SiteFault::LostBell { degree: 1 }),
     };
     let put = [LetterKind::Request, LetterKind::Done, LetterKind::Fork];
     leaves::<ChannelLane, HostRuntime>(&rt, rt.alloc(), Manner::Patient(2), &left, put);
@@ -173,7 +234,7 @@ fn an_eager_site_gives_the_fork_after_all_its_meals(rt: HostRuntime) {
         ports: (0, 1),
         journal: EAGER.as_slice(),
         stray: None,
-        fault: Some(SiteFault::Lost(1)),
+        fault: Some(SiteFault::LostBell { degree: 1 }),
     };
     let put = [LetterKind::Request, LetterKind::Done, LetterKind::Fork];
     leaves::<ChannelLane, HostRuntime>(&rt, rt.alloc(), Manner::Eager, &left, put);

@@ -163,7 +163,7 @@ fn bell_that_nobody_rings_is_a_fault(rt: HostRuntime) {
     } = far;
     drop(ringer);
     let left = Left {
-        fault: Some(SiteFault::Lost(1)),
+        fault: Some(SiteFault::LostBell { degree: 1 }),
         ..HIGHER_ASKED
     };
     runs::<ChannelLane, HostRuntime>(&rt, rt.alloc(), PAIR, near, &left);
@@ -180,7 +180,7 @@ fn results_of_a_marked_diner_fit_its_marks(rt: HostRuntime) {
         log,
         goes_well: false,
     };
-    let core = core_of(&rt, alloc, &plan, 0);
+    let core = core_of(&rt, alloc, &plan, 0, 2);
     assert!(rt; core.degree() == 0);
     let end = run_site::<HostRuntime, ChannelLane, Marked>(
         &rt,

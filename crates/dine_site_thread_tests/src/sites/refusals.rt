@@ -53,7 +53,7 @@ fn refused_ring_is_a_fault(rt: HostRuntime) {
     } = far;
     drop(bell);
     let left = Left {
-        fault: Some(SiteFault::Lost(1)),
+        fault: Some(SiteFault::LostBell { degree: 1 }),
         ..LOWER_ATE
     };
     runs::<ChannelLane, HostRuntime>(&rt, rt.alloc(), PAIR, near, &left);

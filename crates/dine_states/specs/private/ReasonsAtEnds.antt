@@ -6,7 +6,9 @@ use Rattle.dine_graph.specs.Plan.{SeenPlan, site_count}
 use Rattle.dine_rules.specs.declared.events.Event.{Event}
 use Rattle.dine_rules.specs.declared.events.EventKind.TheVariants as event
 use Rattle.dine_rules.specs.Holdings.{fork_at, hand_at}
-use Rattle.dine_rules.specs.Steps.{Shape, Takes, Puts, Alone, shape_of}
+use Rattle.dine_rules.specs.declared.events.Shape.{Shape}
+use Rattle.dine_rules.specs.declared.events.Shape.TheVariants.{Takes, Puts, Alone}
+use Rattle.dine_rules.specs.Steps.{shape_of}
 use Rattle.dine_rules.specs.World.{WorldState, state_of}
 use Rattle.dine_states.specs.declared.ends.End.{End}
 use Rattle.dine_states.specs.declared.why.Reason.{Reason}

@@ -4,6 +4,7 @@ use Rattle.std.proofs.lemmas.Grind.{common_steps}
 use Rattle.std.proofs.lemmas.Option.{slice_get-get_or}
 use Rattle.dine_graph.specs.Plan.{job_count, site_count}
 use Rattle.dine_tellers.specs.Balances.{before, balance_of}
+use Rattle.dine_tellers.specs.declared.TheConstants.{START}
 use Rattle.dine_tellers.proofs.Sums.{before_next, before_some, next_balances}
 use Rattle.dine_tellers.proofs.books_of.Goals as goal
 
@@ -16,7 +17,7 @@ loop-site-preserved c =
     let out = slice_index_or c.args.outs.now s c.index-outs-site.result in
     let within_outs : s < length c.args.outs.now = omega (arith, within, c.requires.count) in
     let sent = c.requires.sent s out (slice_get-get_or c.args.outs.now s c.index-outs-site.result within_outs) in
-    let few : out.diner.sent ≤ 1000 = omega (arith, sent, c.sites.ensures.plan.few_jobs s within) in
+    let few : out.diner.sent ≤ START = omega (arith, sent, c.requires.can_pay s within) in
     let pushed = c.in_ok-push.ensures.items in
     record {
       balances = next_balances plan (vec_items c.loop-site.balances) (vec_items c.push.new.self) s c.loop-site.came out.diner.sent was.balances was.came sent pushed;

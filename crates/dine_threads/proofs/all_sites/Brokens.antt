@@ -271,13 +271,14 @@ ended_along manner plan s state f g end same ended = record {
   breach = ended.breach;
   lost = λ link reported. (let was = ended.lost link reported in record {
     within = was.within;
-    refused = λ below. elim (was.refused below) [
-      | inl put ↦ inl (ap (λ (l : OnLinks). l.put_refused) (sym (same link below)) ∙ put)
-      | inr take ↦ inr (ap (λ (l : OnLinks). l.take_refused) (sym (same link below)) ∙ take)
+    refused = elim was.refused [
+      | inl put ↦ inl (ap (λ (l : OnLinks). l.put_refused) (sym (same link was.within)) ∙ put)
+      | inr take ↦ inr (ap (λ (l : OnLinks). l.take_refused) (sym (same link was.within)) ∙ take)
     ];
     to_place = was.to_place;
     no_close = was.no_close;
   });
+  degree = ended.degree;
 }
 
 module _ {Lane Tx Closed Rx D : Type 0} {lane : Ghosts Lane Tx Closed Rx}

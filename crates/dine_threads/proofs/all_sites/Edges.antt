@@ -5,6 +5,7 @@ use Rattle.std.proofs.lemmas.Option.{slice_get-get_or, same_Some, none-some}
 use Rattle.std.specs.List.{range_with_len}
 use Rattle.std.proofs.lemmas.List.Filters.{length-filter_both}
 use Rattle.std.proofs.lemmas.List.FromFn.{length-range_with_len}
+use Rattle.dine_graph.specs.declared.limits.TheConstants.{MAX_EDGES}
 use Rattle.dine_graph.specs.Plan.{SeenPlan, IsPlan, edge_count, edges_of, is_one_of, lo_of, hi_of}
 use Rattle.dine_rules.specs.JoinedEnds.{AreEndsOfEdge}
 use Rattle.dine_rules.specs.Local.{edge_at}
@@ -50,7 +51,7 @@ found_spot plan s t edge place result same at only =
     same_spot (record { site = s; at = result }) (record { site = t; at = place }) same (sym (only place (subst (λ x. slice_get (edges_of plan x) place ≡ Some edge) (sym same) at)))
 
 -- a site has few edges
-pub few_edges : (plan : SeenPlan) (s : ℕ) → IsPlan plan → length (edges_of plan s) ≤ 512
+pub few_edges : (plan : SeenPlan) (s : ℕ) → IsPlan plan → length (edges_of plan s) ≤ MAX_EDGES
 few_edges plan s is_plan =
     let both = length-filter_both (λ e. is_one_of (get_or plan.edges e (0, 0)) s) (λ e. not (is_one_of (get_or plan.edges e (0, 0)) s)) (λ _. refl) (range_with_len 0 (length plan.edges)) in
     omega (arith, both, length-range_with_len 0 (length plan.edges), is_plan.few_edges)

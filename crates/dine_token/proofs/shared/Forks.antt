@@ -1,8 +1,9 @@
 -- A fork stays a proper fork through what may be done with it.
-use Rattle.std.proofs.Common.{[], ◌∷◌, ◌++◌, ◌≡◌, ℕ, ◌+◌, ◌*◌, ◌<◌, ◌≤◌, true, false, cond, eqb, List, length, sym, ◌∙◌, ap, subst, inl, inr, arith}
+use Rattle.std.proofs.Common.{[], ◌∷◌, ◌++◌, ◌≡◌, ℕ, ◌+◌, ◌*◌, ◌<◌, ◌≤◌, true, false, cond, eqb, List, length, get_or, sym, ◌∙◌, ap, subst, inl, inr, arith}
 use Rattle.std.specs.List.{All}
 use Rattle.std.proofs.lemmas.Bool.{eq-eqb, ne_eqb, cond-true, cond-false}
-use Rattle.std.proofs.lemmas.List.{length_push}
+use Rattle.std.proofs.lemmas.List.{length_push, get_or_push}
+use Rattle.dine_token.specs.declared.limits.TheConstants.{MAX_JOBS}
 use Rattle.dine_token.specs.declared.act.Act.{Act}
 use Rattle.dine_token.specs.declared.act.Act.TheVariants.{Add, Set}
 use Rattle.dine_token.specs.declared.log_entry.Entry.TheVariants.{Meal}
@@ -76,18 +77,31 @@ pub room_to_move : (fork : SeenFork) (to : ℕ) → IsFork fork → MayMove to f
 room_to_move fork to proper may =
     omega (arith, length-periods (after_move to fork) (IsFork-after_move fork to proper may), ap length (periods_of-push_move fork.ends.0 fork.log to), length_push (periods_of fork.ends.0 fork.log) (period to (meals_of to fork.log + 1) 0))
 
--- what its periods are
-pub fork_has_periods : (fork : SeenFork) → IsFork fork → HasPeriods fork.ends.0 1000 fork.log
-fork_has_periods fork proper = lawful_has_periods fork.ends fork.due 1000 proper.ordered proper.lower_due proper.higher_due fork.log proper.lawful
+-- no end has more than MAX_JOBS meals due
+pub due_small : (fork : SeenFork) (end : ℕ) → IsFork fork → due_at fork.ends fork.due end ≤ MAX_JOBS
+due_small fork end proper = elim (eqb end fork.ends.0) as (λ b. cond b fork.due.0 fork.due.1 ≤ MAX_JOBS) [ true ↦ proper.lower_due | false ↦ proper.higher_due ]
 
-pub periods_small : (fork : SeenFork) → IsFork fork → All (λ (p : Period). p.first + p.count ≤ 1001) (periods_of fork.ends.0 fork.log)
+-- what its periods are
+pub fork_has_periods : (fork : SeenFork) → IsFork fork → HasPeriods fork.ends.0 MAX_JOBS fork.log
+fork_has_periods fork proper = lawful_has_periods fork.ends fork.due MAX_JOBS proper.ordered proper.lower_due proper.higher_due fork.log proper.lawful
+
+pub periods_small : (fork : SeenFork) → IsFork fork → All (λ (p : Period). p.first + p.count ≤ MAX_JOBS + 1) (periods_of fork.ends.0 fork.log)
 periods_small fork proper =
     let parts = fork_has_periods fork proper in
     let at : (end : ℕ) → parts.last.site ≡ end → meals_of parts.last.site fork.log ≡ meals_of end fork.log = λ end same. ap (λ (e : ℕ). meals_of e fork.log) same in
-    periods-small fork.ends.0 1000 fork.log parts (elim (IsEnd-location fork proper) [
+    periods-small fork.ends.0 MAX_JOBS fork.log parts (elim (IsEnd-location fork proper) [
       | inl w ↦ omega (arith, at fork.ends.0 (parts.here ∙ w), proper.lawful.lower_within, proper.lower_due)
       | inr w ↦ omega (arith, at fork.ends.1 (parts.here ∙ w), proper.lawful.higher_within, proper.higher_due)
     ])
+
+-- so if a meal may be eaten, it is one more of the last period, which then has at most MAX_JOBS
+pub room_to_eat : (fork : SeenFork) (site k n : ℕ) (p : Period) → IsFork fork → MayEat site k fork → p ≡ get_or (periods_of fork.ends.0 fork.log) n p → n + 1 ≡ length (periods_of fork.ends.0 fork.log) → p.count + 1 ≤ MAX_JOBS
+room_to_eat fork site k n p proper may at last_place =
+    let parts = fork_has_periods fork proper in
+    let front_size : length parts.front ≡ n = omega (arith, ap length parts.is, length_push parts.front parts.last, last_place) in
+    let last : p ≡ parts.last = at ∙ ap (λ (l : List Period). get_or l n p) parts.is ∙ get_or_push parts.front parts.last p n front_size in
+    let eater : meals_of parts.last.site fork.log ≡ meals_of site fork.log = ap (λ (e : ℕ). meals_of e fork.log) (parts.here ∙ may.held) in
+    omega (arith, ap (λ (x : Period). x.count) last, parts.next, parts.from_one, eater, may.next, may.within, due_small fork site proper)
 
 pub placed_fork : (fork : SeenFork) → IsFork fork → IsPlaced (periods_of fork.ends.0 fork.log)
 placed_fork fork proper =
@@ -95,10 +109,6 @@ placed_fork fork proper =
     let P : List Period → Type 0 = λ l. IsPlaced l in
     subst P (sym parts.is) parts.placed
 
--- no end has more than 1,000 meals due
-pub due_small : (fork : SeenFork) (end : ℕ) → IsFork fork → due_at fork.ends fork.due end ≤ 1000
-due_small fork end proper = elim (eqb end fork.ends.0) as (λ b. cond b fork.due.0 fork.due.1 ≤ 1000) [ true ↦ proper.lower_due | false ↦ proper.higher_due ]
-
--- the log has at most 4,000 entries, and at most as many Moves
-pub moves-fork : (fork : SeenFork) → IsFork fork → moves_of fork.log ≤ 4000
+-- the log has at most four times MAX_JOBS entries, and at most as many Moves
+pub moves-fork : (fork : SeenFork) → IsFork fork → moves_of fork.log ≤ 4 * MAX_JOBS
 moves-fork fork proper = omega (arith, length-fork fork proper, (counted_lawful fork.ends fork.due proper.ordered fork.log proper.lawful).all, proper.lower_due, proper.higher_due)

@@ -150,7 +150,7 @@ pub fn a_check_is_good_for_one_meal()
 /// A neighbour may wait for all meals of an eager site, and for all meals of a polite one before it rings. The lower of
 /// two sites has k jobs, and the higher one has asked it for the fork. If the higher site has rung, and the lower one
 /// is eager, the lower one may begin all its k meals and have the ring left, and the fork. If the higher site has yet
-/// to ring, the same may happen although the lower one is polite. For k up to 1000 the two sites are a plan.
+/// to ring, the same may happen although the lower one is polite. For k up to 4,294,967,295 the two sites are a plan.
 pub fn unheard_neighbours_wait_for_all_meals()
     ensures is_plan { (k : ℕ) → k ≤ MAX_JOBS → IsPlan (two_sites k 1) }
     ensures rung { (k : ℕ) → LeadsBySteps (two_sites k 1) 3 (start_run (two_sites k 1)) (rung_run 0) }

@@ -1,13 +1,14 @@
 -- A fork that is carried on: it is a fork, a chained one is carried on, and its bytes tell which one it is.
 use Rattle.std.proofs.lemmas.Grind.{common_steps}
+use Rattle.std.proofs.lemmas.Nat.{mod_below}
 use Rattle.std.proofs.Common.{◌≡◌, ◌⊎◌, ℕ, zero, suc, ◌+◌, ◌-◌, ◌<◌, ◌≤◌, ◌^◌, true, List, [], ◌∷◌, ◌++◌, refl, sym, ◌∙◌, ap, subst, inl, inr, arith}
 use Rattle.dine_token.specs.declared.log_entry.Entry.{Entry}
 use Rattle.dine_token.specs.declared.log_entry.Entry.TheVariants.{Move}
 use Rattle.dine_token.specs.Fork.{SeenFork, IsEnd, IsFork, location, other_end}
 use Rattle.dine_token.specs.Lawful.{IsLawful, due_at}
-use Rattle.dine_token.specs.Log.{is_dirty, meals_of}
+use Rattle.dine_token.specs.Log.{is_dirty, meals_of, moves_of}
 use Rattle.dine_token.specs.Values.{IsAct}
-use Rattle.dine_token.proofs.shared.Forks.{IsEnd-location, IsFork-after_meal, IsFork-after_move, moves-fork}
+use Rattle.dine_token.proofs.shared.Forks.{IsEnd-location, IsFork-after_meal, IsFork-after_move}
 use Rattle.dine_token.proofs.shared.Lawfulness.{IsLawful-none, due_at-higher, due_at-lower}
 use Rattle.dine_token.proofs.shared.Logs.{location_of-push_move, meals_of-push_move}
 use Rattle.dine_graph.specs.Plan.{SeenPlan, IsPlan, act_of, edge_count, hi_of, job_count, lo_of}
@@ -131,7 +132,7 @@ module _ (plan : SeenPlan) (is_plan : IsPlan plan) (run edge : ℕ) (kept : Seen
       let site = end_of_plan plan kept (location kept) is_plan is of_plan (IsEnd-location kept is) in (
         small,
         (
-          omega (arith, moves-fork fork is_fork),
+          mod_below (moves_of fork.log) (2 ^ 32) (omega arith),
           omega (arith, ate, may.within, site.1, is_plan.few_jobs (location kept) site.0),
           omega (arith, is_fork.bounded, is_fork.lawful.lower_within, is_fork.lawful.higher_within, is_fork.lower_due, is_fork.higher_due),
         ),

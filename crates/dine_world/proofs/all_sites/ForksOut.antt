@@ -110,23 +110,6 @@ pub record AreOut (first : List WorldSite) (first_links : List (List Letter)) (e
   pub as_many : length links ≡ length first_links
   pub rest : (e : ℕ) → k ≤ e → e < length edges → fork_of_edge sites links (edge_ends edges e) e ≡ fork_of_edge first first_links (edge_ends edges e) e
 
--- before the first
-pub none_out : (sites : List WorldSite) (links : List (List Letter)) (edges : List EdgeEnds) (forks : List SeenFork) → forks ≡ [] → AreOut sites links edges 0 forks sites links
-none_out sites links edges forks none = record {
-  count = ap length none;
-  taken = λ e h. absurd (omega arith);
-  places = λ s i e is. is;
-  as_many = refl;
-  rest = λ e h k. refl;
-}
-
--- after the last
-pub all_out : (sites : List WorldSite) (links : List (List Letter)) (edges : List EdgeEnds) (k : ℕ) (forks : List SeenFork) (new : List WorldSite) (new_links : List (List Letter)) → AreOut sites links edges k forks new new_links → k ≡ length edges → AreForksOf sites links edges forks
-all_out sites links edges k forks new new_links out all = record {
-  count = out.count ∙ all;
-  each = λ e h. out.taken e (omega (arith, h, all));
-}
-
 module _ (first : List WorldSite) (first_links : List (List Letter)) (edges : List EdgeEnds) (all : HasAllForks first first_links edges)
     (k : ℕ) (forks : List SeenFork) (sites : List WorldSite) (links : List (List Letter)) (out : AreOut first first_links edges k forks sites links) (within : k < length edges) where
   abbrev ends : EdgeEnds

@@ -41,11 +41,6 @@ meal_ended_degree : (meal : Option SeenMeal) (core : SeenCore) → length (meal_
 meal_ended_degree None core = refl
 meal_ended_degree (Some meal) core = length_put_back core.places meal.forks
 
--- nobody eats
-pub meal_ended_awake : (meal : Option SeenMeal) (core : SeenCore) → MatchOption meal (is_eating core.phase ≡ false) (λ meal. (is_eating core.phase ≡ true) × IsMealOf core meal) → is_eating (meal_ended_by meal core).phase ≡ false
-meal_ended_awake None core fits = fits
-meal_ended_awake (Some meal) core fits = refl
-
 module _ (plan : SeenPlan) (state : LocalState) (world_site : WorldSite) (is_plan : IsPlan plan) (keeps : KeepsStreams plan world_site.core.site state) (eats : EatsWithAll plan world_site.core.site state) (is : IsSiteOf plan state world_site) (i : ℕ) (within : i < length world_site.core.places) where
   abbrev s : ℕ
   s = world_site.core.site

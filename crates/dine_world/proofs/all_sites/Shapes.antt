@@ -1,5 +1,5 @@
 -- What the step of an event does, by the shape of the event.
-use Rattle.std.proofs.Common.{◌≡◌, ℕ, Option, Some, None, refl, sym, ◌∙◌, ap, subst, option_map}
+use Rattle.std.proofs.Common.{◌≡◌, ℕ, List, Option, Some, None, refl, sym, ◌∙◌, ap, subst, option_map}
 use Rattle.std.proofs.lemmas.Bool.{and_parts, false≢true, ltb-true, not-true}
 use Rattle.std.proofs.lemmas.Option.{same_Some}
 use Rattle.std.specs.Prelude.{Bool, true, false}
@@ -10,18 +10,14 @@ use Rattle.dine_rules.specs.declared.letters.Letter.{Letter}
 use Rattle.dine_rules.specs.declared.letters.Letter.TheVariants as letter
 use Rattle.dine_rules.specs.Holdings.{EatsWithAll}
 use Rattle.dine_rules.specs.Local.{LocalState, edge_at, is_eating, is_hungry, is_thinking}
-use Rattle.dine_rules.specs.Steps.{Step, Give, Ask, Hungry, Begin, End, Quit, Done, Close, Break, Take, Shape, Takes, Puts, Alone, after, may, shape_of, step_by, with_put}
+use Rattle.dine_rules.specs.declared.events.Shape.{Shape}
+use Rattle.dine_rules.specs.declared.events.Shape.TheVariants.{Takes, Puts, Alone}
+use Rattle.dine_rules.specs.Steps.{Step, Give, Ask, Hungry, Begin, End, Quit, Done, Close, Break, Take, after, may, shape_of, step_by, with_put}
 use Rattle.dine_site.specs.Core.{SeenCore}
-use Rattle.dine_site.specs.Standing.{CorePuts}
-use Rattle.dine_world.specs.WorldSites.{meal_of}
+use Rattle.dine_site.specs.NextEvent.{can_by_itself}
+use Rattle.dine_world.specs.WorldSites.{can_do, meal_of}
 use Rattle.dine_rules.proofs.shared.links.WorldStreams.{option_map_parts}
 use Rattle.dine_world.proofs.shared.all_sites.OpenedSites.{meal-awake, meal-put, meal-taken}
-
--- the place of a shape that puts
-abbrev place_put : Shape → ℕ
-place_put (Takes i) = 0
-place_put (Puts i) = i
-place_put Alone = 0
 
 abbrev puts_letter : Shape → Bool
 puts_letter (Takes i) = false
@@ -44,13 +40,41 @@ step_alike failed (event.Close i) next other same = refl
 pub puts_not_takes : (shape : Shape) (i j : ℕ) → shape ≡ Puts i → shape ≡ Takes j → ⊥
 puts_not_takes shape i j puts takes = false≢true (ap puts_letter (sym takes ∙ puts))
 
--- the step of an event is the one that was done
-pub puts_as : (kind given : EventKind) (i : ℕ) (first : Step) (old new : SeenCore) (l : Letter) → kind ≡ given → shape_of given ≡ Puts i → ((failed : Bool) → step_by failed (λ place. None) given ≡ Some first) → CorePuts i first old new l
-    → (failed : Bool) (j : ℕ) (one : Step) → shape_of kind ≡ Puts j → step_by failed (λ place. None) kind ≡ Some one → CorePuts j one old new l
-puts_as kind given i first old new l is shape step did failed j one shape_is step_is =
-    let place : i ≡ j = ap place_put (sym shape ∙ ap shape_of (sym is) ∙ shape_is) in
-    let same : first ≡ one = same_Some _ _ (sym (step failed) ∙ ap (step_by failed (λ place. None)) (sym is) ∙ step_is) in
-    subst (λ (k : ℕ). CorePuts k one old new l) place (subst (λ (x : Step). CorePuts i x old new l) same did)
+-- an event that takes is a Take
+pub take_is : (kind : EventKind) (i : ℕ) → shape_of kind ≡ Takes i → kind ≡ event.Take i
+take_is (event.Take j) i is = (let same : j ≡ i = cc in ap event.Take same)
+take_is (event.Give j) i is = absurd cc
+take_is event.End i is = absurd cc
+take_is event.Begin i is = absurd cc
+take_is event.Quit i is = absurd cc
+take_is event.Hungry i is = absurd cc
+take_is (event.Ask j) i is = absurd cc
+take_is (event.Done j) i is = absurd cc
+take_is (event.Close j) i is = absurd cc
+
+-- an event that a site can do, and that takes no letter, it can do by itself
+pub own_can : (links : List (List Letter)) (core : SeenCore) (kind : EventKind) → ((i : ℕ) → shape_of kind ≡ Takes i → ⊥) → can_do links core kind ≡ true → can_by_itself core kind ≡ true
+own_can links core (event.Take i) other can = absurd (other i refl)
+own_can links core (event.Give i) other can = can
+own_can links core event.End other can = can
+own_can links core event.Begin other can = can
+own_can links core event.Quit other can = can
+own_can links core event.Hungry other can = can
+own_can links core (event.Ask i) other can = can
+own_can links core (event.Done i) other can = can
+own_can links core (event.Close i) other can = can
+
+-- and the other way round
+pub can_is_own : (links : List (List Letter)) (core : SeenCore) (kind : EventKind) → ((i : ℕ) → kind ≡ event.Take i → ⊥) → can_by_itself core kind ≡ can_do links core kind
+can_is_own links core (event.Take i) other = absurd (other i refl)
+can_is_own links core (event.Give i) other = refl
+can_is_own links core event.End other = refl
+can_is_own links core event.Begin other = refl
+can_is_own links core event.Quit other = refl
+can_is_own links core event.Hungry other = refl
+can_is_own links core (event.Ask i) other = refl
+can_is_own links core (event.Done i) other = refl
+can_is_own links core (event.Close i) other = refl
 
 module _ (plan : SeenPlan) (s : ℕ) (state : LocalState) where
   -- a step that takes takes the next letter, one that puts puts some letter, and all others leave the letters

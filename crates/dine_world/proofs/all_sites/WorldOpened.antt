@@ -8,6 +8,7 @@ use Rattle.std.proofs.lemmas.List.Sums.{sum_by_push}
 use Rattle.std.proofs.lemmas.Option.{get_or_from_slice_get, slice_get-get_or, slice_get_within, slice_get_past}
 use Rattle.std.proofs.Math.ListN.{get_or-append}
 use Rattle.std.proofs.Math.Seq.{get_or-append_seam}
+use Rattle.dine_token.specs.declared.limits.TheConstants.{MAX_JOBS}
 use Rattle.dine_graph.specs.Plan.{SeenPlan, IsPlan, site_count, edge_count, edges_of, job_count, ends_of, lo_of, hi_of}
 use Rattle.dine_rules.specs.declared.letters.Letter.{Letter}
 use Rattle.dine_world.specs.declared.world.sites.WorldSite.{WorldSite}
@@ -61,8 +62,8 @@ pub letters_more : (plan : SeenPlan) (edge total low high : ℕ) → total ≡ s
     → total + (4 * (low + high) + 8) ≡ sum (map (λ e. 4 * meals_due plan e + 8) (range_with_len 0 (edge + 1)))
 letters_more plan edge total low high is low_is high_is = omega (arith, low_is, high_is, sum_more (λ e. 4 * meals_due plan e + 8) edge total is)
 
--- at most 2,000 meals are due at an edge
-pub few_letters : (plan : SeenPlan) (edge low high : ℕ) → IsPlan plan → edge < edge_count plan → low ≡ job_count plan (lo_of plan edge) → high ≡ job_count plan (hi_of plan edge) → 4 * (low + high) + 8 ≤ 8008
+-- at most twice MAX_JOBS meals are due at an edge
+pub few_letters : (plan : SeenPlan) (edge low high : ℕ) → IsPlan plan → edge < edge_count plan → low ≡ job_count plan (lo_of plan edge) → high ≡ job_count plan (hi_of plan edge) → 4 * (low + high) + 8 ≤ 8 * MAX_JOBS + 8
 few_letters plan edge low high is_plan within low_is high_is =
     let ordered = is_plan.ordered edge within in
     let is_site = is_plan.within edge within in

@@ -12,7 +12,9 @@ use Rattle.dine_world.specs.declared.world.sites.WorldSite.{WorldSite}
 use Rattle.dine_rules.specs.Breach.{is_allowed}
 use Rattle.dine_rules.specs.Local.{LocalState, meal_fails, traffic_at, edge_at, neighbour_at}
 use Rattle.dine_rules.specs.Holdings.{EatsWithAll}
-use Rattle.dine_rules.specs.Steps.{Step, Shape, Takes, Puts, Alone, after, shape_of, step_by, with_put}
+use Rattle.dine_rules.specs.declared.events.Shape.{Shape}
+use Rattle.dine_rules.specs.declared.events.Shape.TheVariants.{Takes, Puts, Alone}
+use Rattle.dine_rules.specs.Steps.{Step, after, shape_of, step_by, with_put}
 use Rattle.dine_rules.specs.Steps as step
 use Rattle.dine_rules.specs.Streams.{KeepsStreams}
 use Rattle.dine_site.specs.Core.{SeenCore, Refines}
@@ -20,7 +22,8 @@ use Rattle.dine_site.specs.LinkNumbers.{link_to, link_from}
 use Rattle.dine_site.specs.Places.{place_at}
 use Rattle.dine_rules.specs.World.{WorldState, no_state, place_of, state_of, next_letter, step_of, world_after, start}
 use Rattle.dine_rules.specs.Links.{queue_to}
-use Rattle.dine_world.specs.WorldSites.{IsSiteOf, can_do, has_place, letters_in, next_in}
+use Rattle.dine_site.specs.NextEvent.{has_place}
+use Rattle.dine_world.specs.WorldSites.{IsSiteOf, can_do, letters_in, next_in}
 use Rattle.dine_world.specs.private.StepsOfSites.{SiteSteps, PutsAt, HasRoomAt, HasRoomFor, MovesLetters, TakesAllowed, has_failed, meets_no_breach, step_in, with_letter, without_next}
 use Rattle.dine_world.specs.Worlds.{IsReached, IsWorldOf, AreLinksOf, AreSitesOf, SeenWorld, can_at, number_to}
 use Rattle.dine_rules.proofs.shared.links.Across.{across}

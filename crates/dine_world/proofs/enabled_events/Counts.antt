@@ -5,6 +5,7 @@ use Rattle.std.specs.Option.{option_map_or}
 use Rattle.std.proofs.lemmas.Bool.{cases_eq}
 use Rattle.std.proofs.lemmas.List.{get_or-set_other, get_or-set_same, get_or_past, length-map, length-set}
 use Rattle.std.proofs.lemmas.Option.{get_or_from_slice_get, same_Some, slice_get-get_or, slice_get-map, slice_get_past}
+use Rattle.dine_graph.specs.declared.limits.TheConstants.{MAX_SITES}
 use Rattle.dine_graph.specs.Plan.{SeenPlan, edges_of}
 use Rattle.dine_rules.specs.declared.events.Event.{Event}
 use Rattle.dine_rules.specs.declared.events.EventKind.{EventKind}
@@ -57,7 +58,7 @@ module _ (plan : SeenPlan) (world : WorldState) (seen : SeenWorld) (is : IsWorld
 -- ---- counts that are right
 
 -- at the start none is taken to be right
-pub full_has_counts : (seen : SeenWorld) (counts : List ℕ) → length seen.sites ≤ 64 → length counts ≡ length seen.sites → HasCounts seen counts (replicate 64 true)
+pub full_has_counts : (seen : SeenWorld) (counts : List ℕ) → length seen.sites ≤ MAX_SITES → length counts ≡ length seen.sites → HasCounts seen counts (replicate 64 true)
 full_has_counts seen counts few same = record {
   every_site = same;
   size = refl;
@@ -74,18 +75,6 @@ past_counted seen counts outdated_counts n past has = record {
   others = λ s out. elim (cases_eq s n) [
     | inl same ↦ get_or_past counts s 0 (omega (arith, same, has.every_site)) ∙ sym (ap (λ (o : Option WorldSite). length (option_map_or (λ (x : WorldSite). kinds_now seen.links x.core) o [])) (slice_get_past seen.sites s (omega (arith, same))))
     | inr other ↦ has.others s (sym (get_or-set_other outdated_counts n s false false other) ∙ out)
-  ];
-}
-
--- a site that was counted may be taken out
-pub site_counted : (seen : SeenWorld) (counts : List ℕ) (outdated_counts : List Bool) (n count : ℕ) → n < length seen.sites → count ≡ length (kinds_now_at seen n) → HasCounts seen counts outdated_counts
-    → HasCounts seen (slice_set counts n count) (slice_set outdated_counts n false)
-site_counted seen counts outdated_counts n count within is has = record {
-  every_site = length-set counts n count ∙ has.every_site;
-  size = length-set outdated_counts n false ∙ has.size;
-  others = λ s out. elim (cases_eq s n) [
-    | inl same ↦ ap (λ (k : ℕ). get_or (slice_set counts n count) k 0) same ∙ get_or-set_same counts n count 0 (omega (arith, within, has.every_site)) ∙ is ∙ ap (λ (k : ℕ). length (kinds_now_at seen k)) (sym same)
-    | inr other ↦ get_or-set_other counts n s count 0 other ∙ has.others s (sym (get_or-set_other outdated_counts n s false false other) ∙ out)
   ];
 }
 

@@ -3,6 +3,7 @@ use Rattle.std.proofs.Common.{◌≡◌, ℕ, ◌<◌, ◌≤◌, length, get_or
 use Rattle.std.specs.List.{filter, range_with_len}
 use Rattle.std.proofs.lemmas.List.Elements.{filter_agree}
 use Rattle.std.proofs.lemmas.List.FromFn.{length-range_with_len}
+use Rattle.dine_graph.specs.declared.limits.TheConstants.{MAX_EDGES}
 use Rattle.dine_graph.specs.Plan.{SeenPlan, edge_count, edges_of, is_end, site_count}
 use Rattle.dine_world.specs.declared.world.sites.WorldSite.{WorldSite}
 use Rattle.dine_rules.specs.World.{WorldState, events_at, is_enabled}
@@ -21,7 +22,7 @@ module _ (plan : SeenPlan) (world : WorldState) (seen : SeenWorld) (is : IsWorld
       (is.sites.stands s past is_site).core.degree ∙ (kept.keeps s is_site).every_place
 
   -- which are few
-  pub edges_few : (s : ℕ) → length (edges_of plan s) ≤ 512
+  pub edges_few : (s : ℕ) → length (edges_of plan s) ≤ MAX_EDGES
   edges_few s = omega (arith, filter_few (is_end plan s) (range_with_len 0 (edge_count plan)), length-range_with_len 0 (edge_count plan), is.reached.is_plan.few_edges)
 
 -- what can happen at a site, by its places, is what is enabled there

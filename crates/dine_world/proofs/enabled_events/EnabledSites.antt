@@ -13,7 +13,9 @@ use Rattle.dine_rules.specs.declared.events.EventKind.{EventKind}
 use Rattle.dine_rules.specs.declared.events.EventKind.TheVariants as event
 use Rattle.dine_rules.specs.declared.letters.Letter.{Letter}
 use Rattle.dine_rules.specs.Local.{edge_at, neighbour_at}
-use Rattle.dine_rules.specs.Steps.{Shape, Step, Takes, Puts, Alone, shape_of}
+use Rattle.dine_rules.specs.declared.events.Shape.{Shape}
+use Rattle.dine_rules.specs.declared.events.Shape.TheVariants.{Takes, Puts, Alone}
+use Rattle.dine_rules.specs.Steps.{Step, shape_of}
 use Rattle.dine_rules.specs.World.{WorldState, kinds_at, place_of, state_of}
 use Rattle.dine_world.specs.declared.world.sites.WorldSite.{WorldSite}
 use Rattle.dine_world.specs.private.EnabledSites.{HasAllEnabled, HasReceiver, IsStill, receiver_of, with_receiver}
@@ -22,7 +24,8 @@ use Rattle.dine_world.specs.private.Counts.{HasCounts, kinds_now}
 use Rattle.dine_world.specs.private.Inboxes.{has_letter}
 use Rattle.dine_site.specs.LinkNumbers.{link_from, link_to}
 use Rattle.dine_site.specs.Places.{neighbour_of, place_at}
-use Rattle.dine_world.specs.WorldSites.{can_do, has_place, next_in}
+use Rattle.dine_site.specs.NextEvent.{has_place}
+use Rattle.dine_world.specs.WorldSites.{can_do, next_in}
 use Rattle.dine_world.specs.private.StepsOfSites.{MovesLetters}
 use Rattle.dine_world.specs.Worlds.{IsWorldOf, SeenWorld, can_at, can_happen, number_to}
 use Rattle.dine_rules.proofs.shared.links.Across.{across}

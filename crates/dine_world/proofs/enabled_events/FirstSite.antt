@@ -6,6 +6,7 @@ use Rattle.std.proofs.lemmas.List.{get_or-set_other, length-set}
 use Rattle.std.proofs.lemmas.List.Quantifiers.{position-Some}
 use Rattle.std.proofs.lemmas.List.Sums.{sum_by-set}
 use Rattle.std.proofs.lemmas.Option.{slice_get_past}
+use Rattle.dine_graph.specs.declared.limits.TheConstants.{MAX_SITES}
 use Rattle.dine_world.specs.private.EnabledSites.{HasAllEnabled, IsStill}
 use Rattle.dine_world.specs.Worlds.{SeenWorld, can_at}
 
@@ -57,7 +58,7 @@ past_full zero s h = omega arith
 past_full (suc n) zero h = absurd (let e : true ≡ false = h in cc)
 past_full (suc n) (suc s) h = omega (arith, past_full n s h)
 
-pub full_has_all : (seen : SeenWorld) → length seen.sites ≤ 64 → HasAllEnabled seen (replicate 64 true)
+pub full_has_all : (seen : SeenWorld) → length seen.sites ≤ MAX_SITES → HasAllEnabled seen (replicate 64 true)
 full_has_all seen few = record {
   size = refl;
   others = λ s out kind. ap (can_at seen.links kind) (slice_get_past seen.sites s (omega (arith, past_full 64 s out)));

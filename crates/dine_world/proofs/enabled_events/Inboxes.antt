@@ -10,7 +10,9 @@ use Rattle.dine_rules.specs.declared.events.Event.{Event}
 use Rattle.dine_rules.specs.declared.events.EventKind.TheVariants as event
 use Rattle.dine_rules.specs.declared.letters.Letter.{Letter}
 use Rattle.dine_rules.specs.Local.{edge_at, neighbour_at}
-use Rattle.dine_rules.specs.Steps.{Shape, Step, Takes, Puts, Alone, shape_of}
+use Rattle.dine_rules.specs.declared.events.Shape.{Shape}
+use Rattle.dine_rules.specs.declared.events.Shape.TheVariants.{Takes, Puts, Alone}
+use Rattle.dine_rules.specs.Steps.{Step, shape_of}
 use Rattle.dine_rules.specs.Streams.{is_lower_at}
 use Rattle.dine_rules.specs.World.{WorldState, place_of, state_of}
 use Rattle.dine_world.specs.declared.world.sites.WorldSite.{WorldSite}
@@ -19,7 +21,8 @@ use Rattle.dine_site.specs.Core.{SeenCore}
 use Rattle.dine_world.specs.private.Inboxes.{HasInboxes, LeadsToSet, changed_link, end_of, end_of_link, has_letter, no_ends, inboxes_after}
 use Rattle.dine_site.specs.LinkNumbers.{link_from, link_to}
 use Rattle.dine_site.specs.Places.{place_at}
-use Rattle.dine_world.specs.WorldSites.{can_do, has_place, next_in}
+use Rattle.dine_site.specs.NextEvent.{has_place}
+use Rattle.dine_world.specs.WorldSites.{can_do, next_in}
 use Rattle.dine_world.specs.private.StepsOfSites.{MovesLetters}
 use Rattle.dine_world.specs.Worlds.{IsWorldOf, SeenWorld, can_at, can_happen, ends_seen, number_to}
 use Rattle.dine_rules.proofs.shared.links.Across.{across, place_of-edge_at}

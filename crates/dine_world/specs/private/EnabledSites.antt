@@ -4,7 +4,8 @@ use Rattle.std.specs.List.{range_with_len}
 use Rattle.dine_rules.specs.declared.letters.Letter.{Letter}
 use Rattle.dine_rules.specs.declared.events.EventKind.{EventKind}
 use Rattle.dine_world.specs.declared.world.sites.WorldSite.{WorldSite}
-use Rattle.dine_rules.specs.Steps.{Shape, Takes, Puts, Alone}
+use Rattle.dine_rules.specs.declared.events.Shape.{Shape}
+use Rattle.dine_rules.specs.declared.events.Shape.TheVariants.{Takes, Puts, Alone}
 use Rattle.dine_rules.specs.World.{kinds_at}
 use Rattle.dine_site.specs.Core.{SeenCore}
 use Rattle.dine_site.specs.Places.{neighbour_of, place_at}

@@ -3,7 +3,8 @@ use Rattle.std.specs.Prelude.{◌≡◌, ℕ, ◌<◌, ◌/◌, ◌%◌, ◌==�
 use Rattle.dine_rules.specs.declared.letters.Letter.{Letter}
 use Rattle.dine_rules.specs.declared.events.EventKind.TheVariants as event
 use Rattle.dine_world.specs.declared.world.EdgeEnds.{EdgeEnds}
-use Rattle.dine_rules.specs.Steps.{Shape, Takes, Puts, Alone}
+use Rattle.dine_rules.specs.declared.events.Shape.{Shape}
+use Rattle.dine_rules.specs.declared.events.Shape.TheVariants.{Takes, Puts, Alone}
 use Rattle.dine_site.specs.Core.{SeenCore}
 use Rattle.dine_site.specs.LinkNumbers.{link_from, link_to}
 use Rattle.dine_site.specs.Places.{place_at}

@@ -6,7 +6,9 @@ use Rattle.dine_rules.specs.declared.events.EventKind.{EventKind}
 use Rattle.dine_world.specs.declared.world.sites.WorldSite.{WorldSite}
 use Rattle.dine_rules.specs.Local.{LocalState, is_eating}
 use Rattle.dine_rules.specs.Holdings.{EatsWithAll}
-use Rattle.dine_rules.specs.Steps.{Step, Shape, Takes, Puts, Alone, after, shape_of, step_by, with_put}
+use Rattle.dine_rules.specs.declared.events.Shape.{Shape}
+use Rattle.dine_rules.specs.declared.events.Shape.TheVariants.{Takes, Puts, Alone}
+use Rattle.dine_rules.specs.Steps.{Step, after, shape_of, step_by, with_put}
 use Rattle.dine_rules.specs.Streams.{KeepsStreams}
 use Rattle.dine_site.specs.Core.{SeenCore}
 use Rattle.dine_site.specs.Places.{IsMealOf, place_at, breach_at}

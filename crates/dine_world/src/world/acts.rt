@@ -6,21 +6,22 @@ ghost use Rattle.dine_rules.specs.declared.letters.Letter.{Letter};
 ghost use Rattle.dine_rules.specs.Local.{is_eating};
 ghost use Rattle.dine_world.specs.private.EnabledSites.{HasReceiver, receiver_of};
 ghost use Rattle.dine_site.specs.LinkNumbers.{link_to};
-ghost use Rattle.dine_site.specs.NextEvent.{next_of};
+ghost use Rattle.dine_site.specs.NextEvent.{can_by_itself, next_of};
 ghost use Rattle.dine_world.specs.private.Counts.{own_kinds_now};
 ghost use Rattle.dine_set.specs.Marks.{nth_position};
-ghost use Rattle.dine_rules.specs.Steps.{Begin, End, Puts, Step, Take, after, shape_of, step_by};
+ghost use Rattle.dine_rules.specs.declared.events.Shape.TheVariants.{Alone, Puts};
+ghost use Rattle.dine_rules.specs.Steps.{Begin, End, Take, after, shape_of};
 ghost use Rattle.dine_site.specs.Core.{forks_in_hand};
 ghost use Rattle.dine_site.specs.Places.{after_begin, can_begin, after_end, place_at, after_take};
 ghost use Rattle.dine_world.specs.WorldSites.{can_do};
 ghost use Rattle.dine_world.specs.private.StepsOfSites.{SiteSteps, HasOwnMeal, HasRoomAt, HasRoomFor, TakesAllowed};
 ghost use Rattle.dine_world.specs.WorldSites.{next_in};
 ghost use Rattle.dine_world.specs.private.StepsOfSites.{has_failed, meets_no_breach, without_next};
-ghost use Rattle.dine_site.specs.Standing.{ForEachState, CorePuts, CoreStep, CoreSteps, all_places};
+ghost use Rattle.dine_site.specs.Standing.{ForEachState, CoreStep, CoreSteps, all_places};
 
 use super::queue::Queue;
 use super::sites::WorldSite;
-use dine_rules::{EventKind, Letter};
+use dine_rules::{EventKind, Letter, Shape};
 use dine_set::BitSet64;
 use dine_site::SiteCore;
 use std::mem;
@@ -34,49 +35,39 @@ pub(crate) fn act(world_site: &mut WorldSite, links: &mut [Queue], kind: EventKi
     ensures count { length links.new ≡ length links.old }
     ensures does { SiteSteps kind world_site.old world_site.new links.old links.new }
 {
-    match kind {
-        EventKind::Take(i) => take(world_site, links, i),
-        EventKind::End => end(world_site),
-        EventKind::Begin => begin(world_site),
-        EventKind::Quit => world_site.core.quit(),
-        EventKind::Hungry => world_site.core.hungry(),
-        EventKind::Give(i) | EventKind::Ask(i) | EventKind::Done(i) | EventKind::Close(i) => {
-            put(world_site, links, kind, i)
-        }
+    match kind.shape() {
+        Shape::Takes(i) => take(world_site, links, i),
+        Shape::Puts(i) => put(world_site, links, kind, i),
+        Shape::Alone => act_alone(world_site, kind),
     }
 }
 
 // Puts the letter of the event at place i, last in the link that leads away.
 fn put(world_site: &mut WorldSite, links: &mut [Queue], kind: EventKind, i: u32)
     requires puts { shape_of kind ≡ Puts i }
-    requires can { can_do links.old world_site.old.core kind ≡ true }
+    requires can { can_by_itself world_site.old.core kind ≡ true }
     requires room { HasRoomAt links.old world_site.old.core i }
     ensures count { length links.new ≡ length links.old }
     ensures does { SiteSteps kind world_site.old world_site.new links.old links.new }
 {
     let link = world_site.core.link_from(i);
-    let letter = letter_of(&mut world_site.core, kind);
+    let letter = world_site.core.put(kind);
     links[link].put(letter);
 }
 
-// Does the event, and returns the letter that it puts.
-fn letter_of(core: &mut SiteCore, kind: EventKind) -> Letter
-    requires puts { (i : ℕ) × (shape_of kind ≡ Puts i) }
-    requires can { (links : List (List Letter)) → can_do links core.old kind ≡ true }
-    ensures site { core.new.site ≡ core.old.site }
-    ensures step { (failed : Bool) (i : ℕ) (one : Step) → shape_of kind ≡ Puts i
-        → step_by failed (λ place. None) kind ≡ Some one → CorePuts i one core.old core.new result }
+// Does an event without a place.
+fn act_alone(world_site: &mut WorldSite, kind: EventKind)
+    requires alone { shape_of kind ≡ Alone }
+    requires can { can_by_itself world_site.old.core kind ≡ true }
+    requires meal { HasOwnMeal world_site.old }
+    ensures { (links : List (List Letter)) → SiteSteps kind world_site.old world_site.new links links }
 {
     match kind {
-        EventKind::Give(i) => core.give(i),
-        EventKind::Ask(i) => core.ask(i),
-        EventKind::Done(i) => core.done(i),
-        EventKind::Close(i) => core.close(i),
-        EventKind::Take(_)
-        | EventKind::End
-        | EventKind::Begin
-        | EventKind::Quit
-        | EventKind::Hungry => { unreachable!() }
+        EventKind::End => end(world_site),
+        EventKind::Begin => begin(world_site),
+        EventKind::Quit => world_site.core.quit(),
+        EventKind::Hungry => world_site.core.hungry(),
+        _ => unreachable!(),
     }
 }
 
@@ -141,15 +132,9 @@ pub(crate) fn receiver(core: &SiteCore, kind: EventKind) -> Option<u32>
     requires { HasReceiver core.now (shape_of kind) }
     ensures { result ≡ receiver_of core.now (shape_of kind) }
 {
-    match kind {
-        EventKind::Give(i) | EventKind::Ask(i) | EventKind::Done(i) | EventKind::Close(i) => {
-            Some(core.neighbour(i))
-        }
-        EventKind::Take(_)
-        | EventKind::End
-        | EventKind::Begin
-        | EventKind::Quit
-        | EventKind::Hungry => None,
+    match kind.shape() {
+        Shape::Puts(i) => Some(core.neighbour(i)),
+        Shape::Takes(_) | Shape::Alone => None,
     }
 }
 
@@ -184,14 +169,7 @@ pub(crate) fn can_do(links: &[Queue], core: &SiteCore, kind: EventKind) -> bool
 {
     match kind {
         EventKind::Take(i) => i < core.degree() && can_take(links, core, i),
-        EventKind::Give(i) => i < core.degree() && core.may_give(i),
-        EventKind::End => core.may_end(),
-        EventKind::Begin => core.may_begin(),
-        EventKind::Quit => core.may_quit(),
-        EventKind::Hungry => core.may_hungry(),
-        EventKind::Ask(i) => i < core.degree() && core.may_ask(i),
-        EventKind::Done(i) => i < core.degree() && core.may_done(i),
-        EventKind::Close(i) => i < core.degree() && core.may_close(i),
+        _ => core.may(kind),
     }
 }
 

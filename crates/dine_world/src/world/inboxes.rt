@@ -2,11 +2,11 @@
 ghost use Rattle.std.specs.Prelude.{◌≡◌, ◌<◌, ◌/◌, length, true};
 ghost use Rattle.dine_rules.specs.Steps.{shape_of};
 ghost use Rattle.dine_world.specs.private.Inboxes.{LeadsToSet, changed_link, end_of_link, has_letter, inboxes_after};
-ghost use Rattle.dine_world.specs.WorldSites.{has_place};
+ghost use Rattle.dine_site.specs.NextEvent.{has_place};
 
 use super::EdgeEnds;
 use super::queue::Queue;
-use dine_rules::EventKind;
+use dine_rules::{EventKind, Shape};
 use dine_set::BitSet64;
 use dine_site::SiteCore;
 
@@ -15,12 +15,10 @@ pub(super) fn changed_link(core: &SiteCore, kind: EventKind) -> Option<usize>
     requires { has_place core.now (shape_of kind) ≡ true }
     ensures { result ≡ changed_link core.now (shape_of kind) }
 {
-    match kind {
-        EventKind::Take(i) => Some(core.link_to(i)),
-        EventKind::Give(i) | EventKind::Ask(i) | EventKind::Done(i) | EventKind::Close(i) => {
-            Some(core.link_from(i))
-        }
-        EventKind::End | EventKind::Begin | EventKind::Quit | EventKind::Hungry => None,
+    match kind.shape() {
+        Shape::Takes(i) => Some(core.link_to(i)),
+        Shape::Puts(i) => Some(core.link_from(i)),
+        Shape::Alone => None,
     }
 }
 

@@ -1,4 +1,4 @@
-use Rattle.std.proofs.Common.{refl, ◌∙◌}
+use Rattle.std.proofs.Common.{◌∙◌}
 use Rattle.dine_draft.specs.Draft.{ends_of_edge}
 use Rattle.dine_draft.proofs.shared.ListLemmas.{each_plain_more}
 use Rattle.dine_draft.proofs.edges.ends_of.Goals as goal

@@ -3,6 +3,7 @@ use Rattle.std.specs.Str.{bytes_eq}
 use Rattle.std.proofs.lemmas.Bool.{lt-ltb, le-ltb}
 use Rattle.std.proofs.lemmas.List.{length-map}
 use Rattle.dine_graph.specs.Site.{seen_site}
+use Rattle.dine_graph.specs.declared.limits.TheConstants.{MAX_SITES}
 use Rattle.dine_draft.specs.Refusals.{site_refusals}
 use Rattle.dine_draft.proofs.shared.NameLemmas.{names_seen, length-names_seen}
 use Rattle.dine_draft.proofs.shared.ListLemmas.{first_twice_within}
@@ -29,23 +30,23 @@ returns-then-is_empty c = rw (← c.in_default.ensures, ← c.in_ok-site.ensures
 pub returns-then-sites : goal.returns-then-sites
 unfolding site_refusals
 returns-then-sites c =
-    let many = lt-ltb 64 (length c.args.sites.now) c.if-sites.true in
+    let many = lt-ltb MAX_SITES (length c.args.sites.now) c.if-sites.true in
     rw (← c.in_default.ensures, ← c.in_ok-site.ensures, c.in_default-2.is, length-map c.args.sites.now seen_site, ← c.if-is_empty.ensures, many) refl
 
 pub returns-in-Some-first_with_many_jobs : goal.returns-in-Some-first_with_many_jobs
 unfolding site_refusals
 returns-in-Some-first_with_many_jobs c =
-    let few = le-ltb 64 (length c.args.sites.now) c.if-sites.false in
+    let few = le-ltb MAX_SITES (length c.args.sites.now) c.if-sites.false in
     rw (← c.in_default.ensures, ← c.in_ok-site.ensures, c.in_default-2.is, ← c.in-Some-first_with_many_jobs.ensures, length-map c.args.sites.now seen_site, ← c.if-is_empty.ensures, few) refl
 
 pub returns-in-Some-first_with_many_turns : goal.returns-in-Some-first_with_many_turns
 unfolding site_refusals
 returns-in-Some-first_with_many_turns c =
-    let few = le-ltb 64 (length c.args.sites.now) c.if-sites.false in
+    let few = le-ltb MAX_SITES (length c.args.sites.now) c.if-sites.false in
     rw (← c.in_default.ensures, ← c.in_ok-site.ensures, c.in_default-2.is, ← c.in_default-first_with_many_jobs.ensures, ← c.in-Some-first_with_many_turns.ensures, length-map c.args.sites.now seen_site, ← c.if-is_empty.ensures, few) refl
 
 pub returns : goal.returns
 unfolding site_refusals
 returns c =
-    let few = le-ltb 64 (length c.args.sites.now) c.if-sites.false in
+    let few = le-ltb MAX_SITES (length c.args.sites.now) c.if-sites.false in
     rw (← c.in_default.ensures, ← c.in_ok-site.ensures, c.in_default-2.is, ← c.in_default-first_with_many_jobs.ensures, ← c.in_default-first_with_many_turns.ensures, length-map c.args.sites.now seen_site, ← c.if-is_empty.ensures, few) refl

@@ -5,5 +5,5 @@ use Rattle.dine_jobs.proofs.open_runs.run_open.Goals as goal
 
 pub returns : goal.returns
 returns g c = record {
-  ok = IfOk-weaker c.run_open_with.result _ _ (λ done has. (has.0, forgotten _ _ _ has.0 _ _ _ has.1)) c.run_open_with.ensures.ok;
+  ok = IfOk-weaker c.run_open_with.result _ _ (λ done has. (has.0, has.1, has.2, forgotten _ _ _ _ _ _ has.0 _ _ _ _ _ has.3, has.4)) c.run_open_with.ensures.ok;
 }

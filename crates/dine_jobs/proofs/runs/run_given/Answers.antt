@@ -76,9 +76,6 @@ pub returns-in-Ok-ran-clause-fault : goal.returns-in-Ok-ran-clause-fault
 returns-in-Ok-ran-clause-fault g c =
     IfErr-weaker c.finish.result _ _ (λ fault kept. subst (λ cause. HasCause c.args.plan.now c.args.values c.args.jobs cause fault) (sym kept) (c.requires.values, c.requires.jobs)) c.finish.ensures.kept
 
-pub cause_of-cause-requires : goal.cause_of-cause-requires
-cause_of-cause-requires g c site fault same = in_plan _ c.args.options.manner c.args.plan.now c.in-Ok-Ok.diners c.in-Err-ran.fault c.in-Err-ran.ensures.fault site fault (sym c.from.ensures ∙ same)
-
 pub returns-clause-fault : goal.returns-clause-fault
 returns-clause-fault g c =
     let plan = c.args.plan.now in

@@ -171,10 +171,6 @@ module _ (p : Event → Bool) (s d n : ℕ) (kind : EventKind) (h : slice_get (k
   pub passed_next : p (record { site = s; kind = kind }) ≡ true → slice_get (filter p (choices s d)) (passed p (choices s d) n) ≡ Some (record { site = s; kind = kind })
   passed_next t = the_next p (choices s d) n (record { site = s; kind = kind }) event_is t
 
--- all are passed over
-pub passed_all : (p : Event → Bool) (s d : ℕ) → passed p (choices s d) (5 * d + placeless) ≡ length (filter p (choices s d))
-passed_all p s d = ap (λ (events : List Event). length (filter p events)) (take_all (5 * d + placeless) (choices s d) (omega (arith, choices_count s d)))
-
 -- ---- the events of all sites
 
 -- a range in two parts

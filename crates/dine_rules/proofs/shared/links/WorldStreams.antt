@@ -13,7 +13,8 @@ use Rattle.dine_rules.specs.declared.events.Event.{Event}
 use Rattle.dine_rules.specs.declared.events.EventKind.{EventKind}
 use Rattle.dine_rules.specs.declared.events.EventKind.TheVariants as event
 use Rattle.dine_rules.specs.Local.{LocalState, Traffic, no_traffic, traffic_at, start_of, edge_at, meal_fails, neighbour_at}
-use Rattle.dine_rules.specs.Steps.{Step, Take, IsPlaceWithin, Takes, after, may, with_put}
+use Rattle.dine_rules.specs.declared.events.Shape.TheVariants.{Takes}
+use Rattle.dine_rules.specs.Steps.{Step, Take, IsPlaceWithin, after, may, with_put}
 use Rattle.dine_rules.specs.Streams.{KeepsStreams, IsProper}
 use Rattle.dine_rules.specs.World.{WorldState, no_state, state_of, start, place_of, put_to, next_letter, step_of, local_after, site_after, world_after, after_events, Reaches, LinksAreOrdered}
 use Rattle.dine_rules.proofs.shared.one_place.Placed.{IsPlaced, placed}

@@ -7,7 +7,9 @@ use Rattle.dine_rules.specs.declared.events.EventKind.{EventKind}
 use Rattle.dine_rules.specs.declared.events.EventKind.TheVariants as event
 use Rattle.dine_rules.specs.declared.letters.Letter.{Letter}
 use Rattle.dine_rules.specs.Local.{LocalState}
-use Rattle.dine_rules.specs.Steps.{Step, Give, Ask, Hungry, Begin, End, Quit, Done, Close, Break, Take, Shape, Takes, Puts, Alone, shape_of, IsPlaceWithin, MovesBy, after, may, step_by, with_put, with_taken}
+use Rattle.dine_rules.specs.declared.events.Shape.{Shape}
+use Rattle.dine_rules.specs.declared.events.Shape.TheVariants.{Takes, Puts, Alone}
+use Rattle.dine_rules.specs.Steps.{Step, Give, Ask, Hungry, Begin, End, Quit, Done, Close, Break, Take, shape_of, IsPlaceWithin, MovesBy, after, may, step_by, with_put, with_taken}
 use Rattle.dine_rules.proofs.shared.lists.Options.{option_map_parts}
 
 -- the shape of a step

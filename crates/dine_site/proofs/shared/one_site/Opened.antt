@@ -7,6 +7,7 @@ use Rattle.dine_token.specs.declared.act.Act.{Act}
 use Rattle.dine_token.specs.Values.{IsAct}
 use Rattle.dine_token.specs.Fork.{SeenFork}
 use Rattle.std.proofs.lemmas.List.{length-map}
+use Rattle.dine_graph.specs.declared.limits.TheConstants.{MAX_EDGES}
 use Rattle.dine_graph.specs.Plan.{SeenPlan, SeenJob, IsPlan, act_of, acts_of, edge_count, is_end, edges_of, job_count, jobs_of, lo_of, hi_of, no_job, resigns, site_count}
 use Rattle.dine_rules.specs.declared.phase.Phase.TheVariants.{Thinking}
 use Rattle.dine_site.specs.declared.site.places.Place.{Place}
@@ -114,6 +115,6 @@ filter_few p (x ∷ xs) =
     elim (p x) as (λ b. length (cond b (x ∷ filter p xs) (filter p xs)) ≤ suc (length xs)) [ true ↦ omega (arith, rest) | false ↦ omega (arith, rest) ]
 
 -- a site has at most as many places as the plan has edges
-pub places_few : (plan : SeenPlan) (s : ℕ) (places : List Place) → IsPlan plan → places ≡ map (λ edge. kept_of plan s Thinking 0 edge no_traffic) (edges_of plan s) → length places ≤ 512
+pub places_few : (plan : SeenPlan) (s : ℕ) (places : List Place) → IsPlan plan → places ≡ map (λ edge. kept_of plan s Thinking 0 edge no_traffic) (edges_of plan s) → length places ≤ MAX_EDGES
 places_few plan s places is_plan is =
     omega (arith, ap length is, length-map (edges_of plan s) (λ edge. kept_of plan s Thinking 0 edge no_traffic), filter_few (is_end plan s) (range_with_len 0 (edge_count plan)), length-range_with_len 0 (edge_count plan), is_plan.few_edges)

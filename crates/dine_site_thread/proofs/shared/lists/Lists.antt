@@ -1,8 +1,8 @@
 -- Lists of which one element is written.
-use Rattle.std.proofs.Common.{◌≡◌, ◌≢◌, ℕ, zero, suc, ◌+◌, ◌<◌, ◌⊎◌, Bool, true, ◌&&◌, cond, List, [], ◌∷◌, set, Some, refl, sym, ◌∙◌, ap, subst, inl, inr, arith}
-use Rattle.std.specs.List.{slice_get, find, list_all, range_with_len, All}
+use Rattle.std.proofs.Common.{◌≡◌, ◌≢◌, ℕ, zero, suc, ◌+◌, ◌<◌, ◌⊎◌, Bool, true, ◌&&◌, List, [], ◌∷◌, set, Some, refl, sym, ◌∙◌, ap, subst, inl, inr, arith}
+use Rattle.std.specs.List.{slice_get, list_all, range_with_len, All}
 use Rattle.std.proofs.lemmas.Option.{slice_get_within, get_or_from_slice_get, none-some, same_Some}
-use Rattle.std.proofs.lemmas.Bool.{cases_Bool, and_parts}
+use Rattle.std.proofs.lemmas.Bool.{and_parts}
 
 -- an element of the written list is the one written, or is another and as it was
 pub get-set : {A : Type 0} (xs : List A) (i : ℕ) (a : A) (j : ℕ) (b : A) → slice_get (set xs i a) j ≡ Some b → ((j ≡ i) × (b ≡ a)) ⊎ ((j ≡ i → ⊥) × (slice_get xs j ≡ Some b))
@@ -32,14 +32,6 @@ pub set-get : {A : Type 0} (xs : List A) (i : ℕ) (a : A) → slice_get xs i �
 set-get [] i a h = refl
 set-get {A} (x ∷ xs) zero a h = ap (λ (y : A). y ∷ xs) (sym (same_Some x a h))
 set-get {A} (x ∷ xs) (suc i) a h = ap (λ (ys : List A). x ∷ ys) (set-get xs i a h)
-
--- what is found passes
-pub found_passes : {A : Type 0} (p : A → Bool) (xs : List A) (a : A) → find p xs ≡ Some a → p a ≡ true
-found_passes p [] a h = absurd (none-some a h)
-found_passes {A} p (x ∷ xs) a h = elim (cases_Bool (p x)) [
-  | inl passes ↦ subst (λ (y : A). p y ≡ true) (same_Some x a (sym (ap (λ (b : Bool). cond b (Some x) (find p xs)) passes) ∙ h)) passes
-  | inr fails ↦ found_passes p xs a (sym (ap (λ (b : Bool). cond b (Some x) (find p xs)) fails) ∙ h)
-]
 
 -- a weaker test of all numbers of a range, and a test that each of them passes
 pub list_all-weaker : {A : Type 0} (p q : A → Bool) → ((a : A) → p a ≡ true → q a ≡ true) → (xs : List A) → list_all p xs ≡ true → list_all q xs ≡ true

@@ -63,6 +63,7 @@ left_unstarted {Identity} manner fronts closes plan s given site forks tokens jo
     no_stray = λ none. refl;
     breach = λ link breach reported. absurd cc;
     lost = λ link reported. absurd cc;
+    degree = λ degree reported. absurd cc;
   };
   site = is_site;
   forks = hold_forks;
@@ -70,7 +71,7 @@ left_unstarted {Identity} manner fronts closes plan s given site forks tokens jo
   same_links = λ i old new at_old at_new. (let same : old ≡ new = same_Some old new (sym at_old ∙ at_new) in record { tx = ap (λ (p : SeenPort Identity). p.tx.link) (sym same); rx = ap (λ (p : SeenPort Identity). p.rx.link) (sym same); bell = ap (λ (p : SeenPort Identity). p.ringer.bell) (sym same); number = ap (λ (p : SeenPort Identity). p.ringer.number) (sym same) });
   rang = λ i port at. (let fresh = all_at IsFreshPort given i port unused at in rang_same port (fresh.nothing_rung ∙ sym (ap length fresh.nothing_put)));
   heard = λ none. absurd (none-some fault.NotStarted (sym none));
-  lost_bell = λ reported. absurd cc;
+  lost_bell = λ degree reported. absurd cc;
 } where
   puts : (i : ℕ) → i < length (start_of plan s).traffic → PutsFit (links_at given i).put_refused None (traffic_at (start_of plan s) i).put (links_at given i).put
   puts i within = record {

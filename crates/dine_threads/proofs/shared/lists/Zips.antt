@@ -1,6 +1,6 @@
 -- One more pair at the end of two lists that are read side by side.
-use Rattle.std.proofs.Common.{All, zero, suc, ◌≡◌, ℕ, slice_get, refl, ◌+◌, ◌<◌, Some, IfSome, List, [], ◌∷◌, ◌++◌, map, length, get_or, sym, ap, ◌∙◌, subst, take, append_assoc, arith, length-append, ◌≤◌}
-use Rattle.std.proofs.lemmas.List.{map-append, take_more, nil_from_length, append-nil, length-map}
+use Rattle.std.proofs.Common.{All, zero, suc, ◌≡◌, ℕ, slice_get, refl, ◌+◌, Some, IfSome, List, [], ◌∷◌, ◌++◌, map, length, sym, ap, ◌∙◌, subst, append_assoc, arith, length-append, ◌≤◌}
+use Rattle.std.proofs.lemmas.List.{map-append, nil_from_length, append-nil, length-map}
 use Rattle.std.specs.List.{AllZip}
 use Rattle.std.proofs.lemmas.List.Elements.{All-push}
 use Rattle.std.proofs.lemmas.Option.{same_Some, none-some}
@@ -41,15 +41,6 @@ mapped_split f old new s x before after all grown split here was =
     ∙ ap (λ w. map f old ++ w) (sym split)
     ∙ was
 
--- a loop that adds what was made of the next of a list
-pub mapped_take : {S X : Type 0} (f : S → X) (old new : List S) (s : S) (xs : List X) (n : ℕ) (d : X) → new ≡ old ++ s ∷ [] → f s ≡ get_or xs n d → n < length xs → map f old ≡ take n xs → map f new ≡ take (n + 1) xs
-mapped_take f old new s xs n d grown here below was =
-    ap (map f) grown
-    ∙ map-append f old (s ∷ [])
-    ∙ ap (λ w. w ++ f s ∷ []) was
-    ∙ ap (λ y. take n xs ++ y ∷ []) here
-    ∙ sym (take_more xs n d below)
-
 -- where as many were made as there were, nothing is left
 pub mapped_all : {S X : Type 0} (f : S → X) (made : List S) (rest all : List X) → map f made ++ rest ≡ all → length all ≤ length made → map f made ≡ all
 mapped_all f made rest all split many =
@@ -73,11 +64,6 @@ two_more xs old mid new a b x y was first second is_a is_b =
 pub all_two_more : {X : Type 0} (P : X → Type 0) (old mid new : List X) (a b : X) → mid ≡ old ++ a ∷ [] → new ≡ mid ++ b ∷ [] → All P old → P a → P b → All P new
 all_two_more P old mid new a b first second was at_a at_b =
     subst (All P) (sym second) (All-push P mid b (subst (All P) (sym first) (All-push P old a was at_a)) at_b)
-
--- one element more on both sides, where what is made of the two is the same
-pub mapped_both : {S T X : Type 0} (f : S → X) (h : T → X) (old new : List S) (x : S) (old_too new_too : List T) (y : T) → new ≡ old ++ x ∷ [] → new_too ≡ old_too ++ y ∷ [] → map f old ≡ map h old_too → f x ≡ h y → map f new ≡ map h new_too
-mapped_both f h old new x old_too new_too y grown grown_too was here =
-    ap (map f) grown ∙ map-append f old (x ∷ []) ∙ ap (λ l. l ++ f x ∷ []) was ∙ ap (λ v. map h old_too ++ v ∷ []) here ∙ sym (map-append h old_too (y ∷ [])) ∙ sym (ap (map h) grown_too)
 
 -- so it is of a list with one more, where each has P
 pub all_more : {X : Type 0} (P : X → Type 0) (old new : List X) (x : X) → new ≡ old ++ x ∷ [] → All P old → P x → All P new

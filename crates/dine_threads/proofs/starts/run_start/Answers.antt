@@ -1,18 +1,9 @@
 use Rattle.std.proofs.Common.{◌≡◌, ◌++◌, ℕ, List, [], refl, sym, ap, ◌∙◌}
 use Rattle.dine_link.specs.Bells.{SeenBell}
-use Rattle.dine_site_thread.specs.declared.manner.Manner.{Manner}
-use Rattle.dine_site_thread.specs.declared.manner.Manner.TheVariants.{Eager, Greedy, Patient, OnCall}
 use Rattle.dine_site_thread.specs.Doings.{empty_checks_of}
 use Rattle.std.proofs.lemmas.Option.{none-some}
 use Rattle.dine_site_thread.specs.declared.site_end.SiteFault.TheVariants as site_fault
 use Rattle.dine_threads.proofs.starts.run_start.Goals as goal
-
--- a site that did nothing has checked nothing
-none_yet : (manner : Manner) → empty_checks_of manner [] ≡ []
-none_yet Eager = refl
-none_yet Greedy = refl
-none_yet (Patient k) = refl
-none_yet (OnCall k) = refl
 
 pub returns-then-pass : goal.returns-then-pass
 returns-then-pass g c =
@@ -25,7 +16,7 @@ pub returns : goal.returns
 returns g c =
     let left_it = rw c.unpack-core.ensures at c.not_started.ensures.left in
     let obeys = rw c.unpack-core.ensures at c.not_started.ensures.obeys in
-    record { threads = λ none. absurd (none-some site_fault.NotStarted (sym none ∙ c.not_started.ensures.fault)); left = λ plan fresh. left_it plan fresh c.args.start.manner; eaten = c.not_started.ensures.eaten; timed = λ none. absurd (none-some site_fault.NotStarted (sym none ∙ c.not_started.ensures.fault)); obeys = obeys; checks = ap (λ (bell : SeenBell). bell.found_empty) c.not_started.ensures.bell ∙ c.requires.unchecked ∙ sym (ap (empty_checks_of c.args.start.manner) c.not_started.ensures.journal ∙ none_yet c.args.start.manner) }
+    record { threads = λ none. absurd (none-some site_fault.NotStarted (sym none ∙ c.not_started.ensures.fault)); left = λ plan fresh. left_it plan fresh c.args.start.manner; eaten = c.not_started.ensures.eaten; timed = λ none. absurd (none-some site_fault.NotStarted (sym none ∙ c.not_started.ensures.fault)); obeys = obeys; checks = ap (λ (bell : SeenBell). bell.found_empty) c.not_started.ensures.bell ∙ c.requires.unchecked ∙ sym (ap (empty_checks_of c.args.start.manner) c.not_started.ensures.journal) }
 
 pub not_started-requires-clause-fresh : goal.not_started-requires-clause-fresh
 not_started-requires-clause-fresh g c κs ls =

@@ -12,9 +12,9 @@ eat-requires-clause-may c =
     let kept = c.args.fork in
     let i = c.loop-i.i in
     let next = MayEat-next c.args.plan.now kept i c.args.meals c.requires.may (omega (arith, c.loop-i-test.true)) in
-    let first : c.meals_of-first.result ≡ meals_here kept = c.meals_of-first.ensures.meals ∙ ap (λ (s : ℕ). meals_of s kept.log) c.at-site.ensures.at in
-    subst (λ (fork : SeenFork). MayEat c.at-site.result (c.meals_of-first.result + 1 + i) fork) (sym c.loop-i.invariant.0)
-    (subst (λ (s : ℕ). MayEat s (c.meals_of-first.result + 1 + i) (eaten_on c.args.plan.now kept i)) (sym c.at-site.ensures.at)
+    let first : c.meals_of-ate.result ≡ meals_here kept = c.meals_of-ate.ensures.meals ∙ ap (λ (s : ℕ). meals_of s kept.log) c.at-site.ensures.at in
+    subst (λ (fork : SeenFork). MayEat c.at-site.result (c.meals_of-ate.result + 1 + i) fork) (sym c.loop-i.invariant.0)
+    (subst (λ (s : ℕ). MayEat s (c.meals_of-ate.result + 1 + i) (eaten_on c.args.plan.now kept i)) (sym c.at-site.ensures.at)
     (subst (λ (m : ℕ). MayEat (location kept) (m + 1 + i) (eaten_on c.args.plan.now kept i)) (sym first) next))
 
 pub loop-i-preserved : goal.loop-i-preserved
@@ -23,9 +23,9 @@ loop-i-preserved c =
     let kept = c.args.fork in
     let i = c.loop-i.i in
     let s = location kept in
-    let k : ℕ = c.meals_of-first.result + 1 + i in
-    let first : c.meals_of-first.result ≡ meals_here kept = c.meals_of-first.ensures.meals ∙ ap (λ (e : ℕ). meals_of e kept.log) c.at-site.ensures.at in
-    let act : c.job.result.now.act ≡ act_of plan c.at-site.result k = ap (λ (j : SeenJob). j.act) c.job.ensures.job in
+    let k : ℕ = c.meals_of-ate.result + 1 + i in
+    let first : c.meals_of-ate.result ≡ meals_here kept = c.meals_of-ate.ensures.meals ∙ ap (λ (e : ℕ). meals_of e kept.log) c.at-site.ensures.at in
+    let act : c.job-act.result.act ≡ act_of plan c.at-site.result k = ap (λ (j : SeenJob). j.act) c.job-act.ensures.job in
     let step : suc i ≡ i + 1 = omega arith in
     let is : c.eat.result.0 ≡ after_meal c.at-site.result k (act_of plan c.at-site.result k) (eaten_on plan kept i) =
     c.eat.ensures.fork ∙ ap (λ (a : Act). after_meal c.at-site.result k a c.loop-i.fork) act ∙ ap (after_meal c.at-site.result k (act_of plan c.at-site.result k)) c.loop-i.invariant.0 in

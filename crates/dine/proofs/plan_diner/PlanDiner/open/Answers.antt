@@ -1,7 +1,7 @@
 use Rattle.std.proofs.Common.{◌≡◌, ◌+◌, ◌-◌, ◌<◌, ◌∷◌, ◌++◌, ℕ, Bool, false, List, [], map, length, take, get_or, slice_index_or, sym, ◌∙◌, ap, arith, rules}
 use Rattle.std.proofs.Math.Nat.{add-sub_cancel}
 use Rattle.std.proofs.lemmas.List.{take_more, map-append, get_or-map, length-map}
-use Rattle.dine_graph.specs.Job.{seen_job}
+use Rattle.dine_graph.specs.Job.{seen_plan_job}
 use Rattle.dine_graph.specs.Plan.{SeenJob, jobs_of, no_job, job_count}
 use Rattle.dine.specs.PlanDiners.{fails_of}
 use Rattle.dine.specs.declared.plan_diner.Chore.{Chore}
@@ -22,8 +22,8 @@ loop-done-preserved c =
     let marks : List Bool = fails_of c.args.plan.now c.args.site in
     let within : c.loop-done.done < job_count c.args.plan.now c.args.site = omega (arith, c.loop-done-test.true, c.jobs-jobs.ensures.count) in
     record {
-      marks = ap (map fails) c.push_reserved.ensures.items ∙ map-append fails c.loop-done.chores.items _ ∙ ap (λ (l : List Bool). l ++ c.job-job.result.now.fails ∷ []) c.loop-done.invariant.marks
-          ∙ sym (marks_more (jobs_of c.args.plan.now c.args.site) c.loop-done.done (seen_job c.job-job.result.now) within c.job-job.ensures.job);
+      marks = ap (map fails) c.push_reserved.ensures.items ∙ map-append fails c.loop-done.chores.items _ ∙ ap (λ (l : List Bool). l ++ c.job-job.result.fails ∷ []) c.loop-done.invariant.marks
+          ∙ sym (marks_more (jobs_of c.args.plan.now c.args.site) c.loop-done.done (seen_plan_job c.job-job.result) within c.job-job.ensures.job);
       count = search rules;
       room = search rules;
     }

@@ -8,4 +8,4 @@ err_then P Q (Err e) f h = f e h
 
 pub returns-clause-cause : goal.returns-clause-cause
 returns-clause-cause c =
-    err_then _ _ c.finish.result (λ f first. cause_of_draft c.args.self.now f (λ other. rw c.in_ok-draft.ensures at (first other))) c.finish.ensures.refused
+    err_then _ _ c.finish.result (λ f first. cause_of_draft c.args.self.now f (λ other. rw c.in_ok-draft.ensures.draft at (first other))) c.finish.ensures.refused

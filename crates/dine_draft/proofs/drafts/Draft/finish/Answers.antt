@@ -7,4 +7,4 @@ pub new-requires : goal.new-requires
 new-requires c =
     let fine = sym c.in_ok-found.ensures ∙ c.in_default.is in
     rw (c.in_ok-ends.ensures ∙ ap (map ends_of_edge) c.as_slice.ensures.value, c.in_ok-values.ensures ∙ ap (map value_of_edge) c.as_slice-2.ensures.value)
-    (plan_of_fine (seen_draft c.args.self) c.requires.first c.requires.last fine)
+    (plan_of_fine (seen_draft c.args.self) c.requires.first c.requires.last c.requires.most_jobs fine)

@@ -1,10 +1,8 @@
-use Rattle.std.proofs.Common.{◌≡◌, ℕ, true, false, length, map, Option, Some, None, is_some, refl, sym, ap, ◌∙◌, arith}
+use Rattle.std.proofs.Common.{◌≡◌, true, false, length, map, Option, Some, None, is_some, refl, sym, ap, ◌∙◌, arith}
 use Rattle.std.specs.Option.{option_or}
 use Rattle.std.proofs.lemmas.List.{length-map}
 use Rattle.dine_graph.specs.Site.{seen_site}
 use Rattle.dine_draft.specs.Draft.{ends_of_edge, seen_draft}
-use Rattle.dine_draft.specs.Refusals.{end_refusals, first_some}
-use Rattle.dine_draft.specs.declared.drafts.DraftEdge.{DraftEdge}
 use Rattle.dine_draft.proofs.shared.PlanLemmas.{are_ends, first_of_groups, join_known}
 use Rattle.dine_draft.proofs.drafts.Draft.first_fault.Goals as goal
 

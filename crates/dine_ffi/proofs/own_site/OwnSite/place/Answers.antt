@@ -1,5 +1,6 @@
 use Rattle.std.proofs.Common.{◌≡◌, ℕ, ◌<◌, ◌≤◌, List, length, get_or, Option, MatchOption, Result, Ok, Err, sym, ◌∙◌, ap, subst, arith}
 use Rattle.std.specs.Result.{OkIff, result_ok}
+use Rattle.dine_graph.specs.declared.limits.TheConstants.{MAX_EDGES}
 use Rattle.dine_graph.specs.Plan.{SeenPlan, edges_of}
 use Rattle.dine_graph.proofs.shared.PlaceLemmas.{positions_few}
 use Rattle.dine_rules.specs.Local.{edge_at}
@@ -16,7 +17,7 @@ returns-then-edges-i c =
     let own : SeenOwnSite = c.args.self.now in
     let i = c.loop-i.i in
     let edges = c.edges_of-edges.ensures in
-    let few : length (edges_of c.plan-plan.result.now c.site-site.result) ≤ 512 = positions_few c.plan-plan.result.now.edges c.site-site.result edges.plan.few_edges in
+    let few : length (edges_of c.plan-plan.result.now c.site-site.result) ≤ MAX_EDGES = positions_few c.plan-plan.result.now.edges c.site-site.result edges.plan.few_edges in
     let are : c.edges_of-edges.result.now ≡ edges_of own.plan own.core.site =
     edges.edges ∙ ap (λ (p : SeenPlan). edges_of p c.site-site.result) c.plan-plan.ensures ∙ ap (edges_of c.self.inside.plan) c.site-site.ensures
     ∙ ap (λ (x : SeenOwnSite). edges_of x.plan x.core.site) c.self.view_is in

@@ -4,7 +4,7 @@ use Rattle.std.proofs.Math.ListN.{get_or-map}
 use Rattle.std.proofs.lemmas.List.{length-map, take_all, take_more}
 use Rattle.dine_token.specs.declared.act.Act.{Act}
 use Rattle.dine_token.specs.declared.act.Act.TheVariants.{Add}
-use Rattle.dine_graph.specs.Job.{seen_job}
+use Rattle.dine_graph.specs.Job.{seen_plan_job}
 use Rattle.dine_graph.specs.Plan.{SeenJob, acts_of, job_count, jobs_of, no_job}
 use Rattle.dine_site.proofs.site.opening.acts_of.Goals as goal
 
@@ -21,8 +21,8 @@ pub loop-done-preserved : goal.loop-done-preserved
 loop-done-preserved c =
     let within : c.loop-done.done < job_count c.args.plan.now c.args.site = omega (arith, c.loop-done-test.true, c.jobs-jobs.ensures.count) in
     record {
-      acts = c.push_reserved.ensures.items ∙ ap (λ (l : List Act). l ++ c.job.result.now.act ∷ []) c.loop-done.invariant.acts
-          ∙ sym (acts_more (jobs_of c.args.plan.now c.args.site) c.loop-done.done (seen_job c.job.result.now) within c.job.ensures.job);
+      acts = c.push_reserved.ensures.items ∙ ap (λ (l : List Act). l ++ c.job.result.act ∷ []) c.loop-done.invariant.acts
+          ∙ sym (acts_more (jobs_of c.args.plan.now c.args.site) c.loop-done.done (seen_plan_job c.job.result) within c.job.ensures.job);
       count = search rules;
       room = search rules;
     }

@@ -1,6 +1,4 @@
-use Rattle.std.proofs.Common.{ℕ, ◌≡◌, ◌+◌, ◌-◌, ◌<◌, ◌≤◌, List, [], ◌∷◌, ◌++◌, length, sym, ◌∙◌, ap, subst, inl, inr, arith, vec_capacity}
-use Rattle.std.specs.List.{All}
-use Rattle.std.proofs.lemmas.List.Elements.{All-get_or}
+use Rattle.std.proofs.Common.{ℕ, ◌≡◌, ◌-◌, List, [], ◌∷◌, ◌++◌, length, get_or, sym, ◌∙◌, ap, subst, inl, inr, arith, vec_capacity}
 use Rattle.dine_token.specs.declared.log_entry.Entry.{Entry}
 use Rattle.dine_token.specs.declared.log_entry.Entry.TheVariants.{Meal}
 use Rattle.dine_token.specs.declared.fork.Contents.{Contents}
@@ -10,7 +8,7 @@ use Rattle.dine_token.specs.Fork.{MayEat, after_meal}
 use Rattle.dine_token.specs.Values.{value_after_act}
 use Rattle.dine_token.specs.private.Fields.{seen_contents, MatchesLog}
 use Rattle.dine_token.proofs.Periods.{length-periods_of}
-use Rattle.dine_token.proofs.shared.Forks.{periods_small}
+use Rattle.dine_token.proofs.shared.Forks.{room_to_eat}
 use Rattle.dine_token.proofs.Contents.{eaten_matches, items_eaten}
 use Rattle.dine_token.proofs.fork.Fork.eat.Goals as goal
 use Rattle.dine_token.proofs.fork.Fork.eat.Goals.{then-site-contents, else-site-contents}
@@ -26,12 +24,10 @@ overflow_add-index_mut c =
     ] in
     let n = c.len-last.result - 1 in
     let fork = seen_contents old in
-    let within : n < length items = omega (arith, length-periods_of fork.ends.0 fork.log, ap length same, ap length contents.periods, c.len-last.ensures, c.if-site-contents.contents.periods.ok.0) in
-    let P : Period → Type 0 = λ p. p.first + p.count ≤ 1001 in
-    let Q : List Period → Type 0 = λ l. All P l in
-    let small : All P items = subst Q (sym (same ∙ contents.periods)) (periods_small fork contents.proper) in
-    let one : P c.index_mut.result.now = subst P (sym c.index_mut.ensures.value) (All-get_or P items n c.index_mut.result.now within small) in
-    omega (arith, one)
+    let may : MayEat c.args.site c.args.k fork = subst (MayEat c.args.site c.args.k) (sym (ap seen_contents c.deref_mut-contents.ensures.value ∙ c.self.view_is)) c.requires.may_eat in
+    let items_are = same ∙ contents.periods in
+    let at = c.index_mut.ensures.value ∙ ap (λ (l : List Period). get_or l n c.index_mut.result.now) items_are in
+    omega (arith, room_to_eat fork c.args.site c.args.k n c.index_mut.result.now contents.proper may at (omega (arith, length-periods_of fork.ends.0 fork.log, ap length items_are, c.len-last.ensures, c.if-site-contents.contents.periods.ok.0)))
 
 pub invariant_of-self : goal.invariant_of-self
 invariant_of-self c =

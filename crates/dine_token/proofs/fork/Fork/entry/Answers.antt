@@ -1,9 +1,9 @@
-use Rattle.std.proofs.Common.{◌≡◌, ℕ, zero, suc, ◌+◌, ◌-◌, ◌<◌, List, [], ◌∷◌, length, take, Some, slice_get, sym, ◌∙◌, ap, arith}
+use Rattle.std.proofs.Common.{◌≡◌, ℕ, zero, suc, ◌+◌, ◌-◌, ◌<◌, ◌≤◌, List, [], ◌∷◌, length, take, Some, slice_get, refl, sym, ◌∙◌, ap, arith}
 use Rattle.dine_token.specs.declared.log_entry.Entry.{Entry}
 use Rattle.dine_token.specs.declared.log_entry.Entry.TheVariants.{Meal}
 use Rattle.dine_token.specs.declared.log_period.Period.{Period}
 use Rattle.dine_token.specs.Periods.{periods_of, entries_of}
-use Rattle.dine_token.proofs.shared.Forks.{length-fork, fork_has_periods}
+use Rattle.dine_token.proofs.shared.Forks.{fork_has_periods}
 use Rattle.dine_token.proofs.Places.{size_first, size_more, entry_first, entry_move, entry_meal}
 use Rattle.dine_token.proofs.fork.Fork.entry.Goals as goal
 
@@ -16,15 +16,34 @@ at_first (q ∷ ps) zero p i before first within got is short =
     let same : i ≡ i - before = omega (arith, none) in
     entry_first (q ∷ ps) p i within got (omega (arith, short, size_first (q ∷ ps) p within got)) ∙ ap (λ (n : ℕ). Some (Meal p.site (p.first + n))) same
 
+-- of the entries of a period there are at most one before its last meal, beside its meals
+inside_first : (ps : List Period) (place : ℕ) (p : Period) (i before : ℕ) → place ≡ 0 → place < length ps → slice_get ps place ≡ Some p → before ≡ length (entries_of (take place ps))
+    → i < length (entries_of (take (place + 1) ps)) → i - before < p.count
+inside_first ps (suc place) p i before first within got is short = absurd (omega (arith, first))
+inside_first ps zero p i before first within got is short = omega (arith, short, size_first ps p within got)
+
+inside_period : (ps : List Period) (place : ℕ) (p : Period) (i before : ℕ) → place < length ps → slice_get ps place ≡ Some p → before ≡ length (entries_of (take place ps))
+    → i < length (entries_of (take (place + 1) ps)) → i - before ≤ p.count
+inside_period ps zero p i before within got is short = omega (arith, inside_first ps zero p i before refl within got is short)
+inside_period ps (suc place) p i before within got is short = omega (arith, is, short, size_more ps (suc place) p (omega arith) within got)
+
+pub overflow_cast-inside : goal.overflow_cast-inside
+overflow_cast-inside c =
+    let ps = periods_of c.args.self.now.ends.0 c.args.self.now.log in
+    let there = c.period_with-place.ensures in
+    omega (arith, inside_period ps c.period_with-place.result c.period-period.result c.args.i c.entries_before.result there.within c.period-period.ensures.period c.entries_before.ensures there.end, c.period-period.ensures.bound)
+
 pub overflow_add-result : goal.overflow_add-result
 overflow_add-result c =
-    let proper = c.period_with-place.ensures.proper in
-    omega (arith, c.requires, length-fork c.args.self.now proper, proper.lower_due, proper.higher_due, c.period-period.ensures.bound)
+    let ps = periods_of c.args.self.now.ends.0 c.args.self.now.log in
+    let there = c.period_with-place.ensures in
+    omega (arith, inside_first ps c.period_with-place.result c.period-period.result c.args.i c.entries_before.result c.if-place-eq0.true there.within c.period-period.ensures.period c.entries_before.ensures there.end, c.period-period.ensures.bound)
 
 pub overflow_add-result-else-inside-eq0 : goal.overflow_add-result-else-inside-eq0
 overflow_add-result-else-inside-eq0 c =
-    let proper = c.period_with-place.ensures.proper in
-    omega (arith, c.requires, length-fork c.args.self.now proper, proper.lower_due, proper.higher_due, c.period-period.ensures.bound)
+    let ps = periods_of c.args.self.now.ends.0 c.args.self.now.log in
+    let there = c.period_with-place.ensures in
+    omega (arith, c.if-inside-eq0.false, inside_period ps c.period_with-place.result c.period-period.result c.args.i c.entries_before.result there.within c.period-period.ensures.period c.entries_before.ensures there.end, c.period-period.ensures.bound)
 
 pub returns-then-place-eq0 : goal.returns-then-place-eq0
 returns-then-place-eq0 c =

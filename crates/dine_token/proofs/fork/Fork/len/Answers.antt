@@ -12,13 +12,13 @@ pub overflow_add-result-2 : goal.overflow_add-result-2
 overflow_add-result-2 c =
     let contents = c.self.invariant in
     let fork = seen_fork c.self.inside in
-    omega (arith, ap (λ (k : Contents). k.lower_meals) c.deref-contents.ensures, ap (λ (k : Contents). k.higher_meals) c.deref-contents.ensures, contents.lower_meals, contents.higher_meals, c.moves.ensures, ap (λ (f : SeenFork). moves_of f.log) c.self.view_is, (counted_lawful fork.ends fork.due contents.proper.ordered fork.log contents.proper.lawful).all, length-fork fork contents.proper, contents.proper.lower_due, contents.proper.higher_due)
+    omega (arith, ap (λ (k : Contents). k.lower_meals) c.deref-contents.ensures, ap (λ (k : Contents). k.higher_meals) c.deref-contents.ensures, contents.lower_meals, contents.higher_meals, c.moves.ensures.moves, ap (λ (f : SeenFork). moves_of f.log) c.self.view_is, (counted_lawful fork.ends fork.due contents.proper.ordered fork.log contents.proper.lawful).all, length-fork fork contents.proper, contents.proper.lower_due, contents.proper.higher_due)
 
 pub returns-clause-len : goal.returns-clause-len
 returns-clause-len c =
     let contents = c.self.invariant in
     let fork = seen_fork c.self.inside in
-    omega (arith, ap (λ (k : Contents). k.lower_meals) c.deref-contents.ensures, ap (λ (k : Contents). k.higher_meals) c.deref-contents.ensures, contents.lower_meals, contents.higher_meals, c.moves.ensures, ap (λ (f : SeenFork). moves_of f.log) c.self.view_is, ap (λ (f : SeenFork). length f.log) c.self.view_is, (counted_lawful fork.ends fork.due contents.proper.ordered fork.log contents.proper.lawful).all)
+    omega (arith, ap (λ (k : Contents). k.lower_meals) c.deref-contents.ensures, ap (λ (k : Contents). k.higher_meals) c.deref-contents.ensures, contents.lower_meals, contents.higher_meals, c.moves.ensures.moves, ap (λ (f : SeenFork). moves_of f.log) c.self.view_is, ap (λ (f : SeenFork). length f.log) c.self.view_is, (counted_lawful fork.ends fork.due contents.proper.ordered fork.log contents.proper.lawful).all)
 
 pub returns-clause-proper : goal.returns-clause-proper
 returns-clause-proper c = search (rules, get_or_read)

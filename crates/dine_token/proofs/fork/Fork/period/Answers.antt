@@ -3,6 +3,7 @@ use Rattle.std.proofs.Common.{◌≡◌, ◌+◌, ◌<◌, ◌≤◌, List, leng
 use Rattle.std.specs.List.{All}
 use Rattle.std.proofs.lemmas.List.Elements.{All-get_or}
 use Rattle.std.proofs.lemmas.Option.{slice_get-get_or}
+use Rattle.dine_token.specs.declared.limits.TheConstants.{MAX_JOBS}
 use Rattle.dine_token.specs.declared.fork.Contents.{Contents}
 use Rattle.dine_token.specs.declared.log_period.Period.{Period}
 use Rattle.dine_token.specs.Fork.{SeenFork}
@@ -18,7 +19,7 @@ returns-clause-bound c =
     let same : items ≡ c.self.inside.contents.value.periods.items = ap (λ (k : Contents). k.periods.items) c.deref.ensures in
     let asked : c.args.i < length (periods_of c.args.self.now.ends.0 c.args.self.now.log) = c.requires in
     let size : length items ≡ length (periods_of c.args.self.now.ends.0 c.args.self.now.log) = ap length same ∙ ap length c.self.invariant.periods ∙ ap (λ (f : SeenFork). length (periods_of f.ends.0 f.log)) c.self.view_is in
-    let P : Period → Type 0 = λ p. p.first + p.count ≤ 1001 in
+    let P : Period → Type 0 = λ p. p.first + p.count ≤ MAX_JOBS + 1 in
     let Q : List Period → Type 0 = λ l. All P l in
     let small : All P items = subst Q (sym (same ∙ c.self.invariant.periods)) (periods_small (seen_fork c.self.inside) c.self.invariant.proper) in
     subst P (sym c.index.ensures) (All-get_or P items c.args.i c.index.result.now (omega (arith, asked, size)) small)

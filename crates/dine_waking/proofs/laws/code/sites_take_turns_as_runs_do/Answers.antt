@@ -24,7 +24,10 @@ acts manner next (Take i l) kind is turn = absurd (let e : None ≡ Some kind = 
 
 takes : (manner : Manner) (next : Option EventKind) → is_on_call manner ≡ false → MayTakeBefore manner next → takes_letters next ≡ true
 takes Eager next other none = ap takes_letters none
-takes Greedy next other none = ap takes_letters none
+takes Greedy next other may = elim may [
+  | inl none ↦ ap takes_letters none
+  | inr begin ↦ ap takes_letters begin
+]
 takes (Patient k) next other may = elim may [
   | inl none ↦ ap takes_letters none
   | inr begin ↦ ap takes_letters begin

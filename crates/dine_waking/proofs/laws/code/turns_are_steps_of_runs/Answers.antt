@@ -22,7 +22,10 @@ may_hear is_open next = takes_letters next || may_think_on is_open next
 
 takes : (manner : Manner) (is_open : Bool) (next : Option EventKind) → (is_on_call manner ≡ true → is_open ≡ true) → MayTakeBefore manner next → may_hear is_open next ≡ true
 takes Eager is_open next calls none = ap (may_hear is_open) none
-takes Greedy is_open next calls none = ap (may_hear is_open) none
+takes Greedy is_open next calls may = elim may [
+  | inl none ↦ ap (may_hear is_open) none
+  | inr begin ↦ ap (may_hear is_open) begin
+]
 takes (Patient k) is_open next calls may = elim may [
   | inl none ↦ ap (may_hear is_open) none
   | inr begin ↦ ap (may_hear is_open) begin

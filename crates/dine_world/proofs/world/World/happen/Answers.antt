@@ -3,7 +3,8 @@ use Rattle.std.proofs.lemmas.Grind.{common_steps}
 use Rattle.std.proofs.lemmas.List.{length-set}
 use Rattle.dine_rules.specs.declared.letters.Letter.{Letter}
 use Rattle.dine_rules.specs.Steps.{shape_of}
-use Rattle.dine_world.specs.WorldSites.{can_do, has_place}
+use Rattle.dine_site.specs.NextEvent.{has_place}
+use Rattle.dine_world.specs.WorldSites.{can_do}
 use Rattle.dine_world.specs.private.StepsOfSites.{SiteSteps, HasRoomFor, TakesAllowed}
 use Rattle.dine_world.specs.private.WorldFields.{seen_world}
 use Rattle.dine_world.specs.Worlds.{WorldStep, IsWorldOf, SeenWorld, can_happen}

@@ -12,7 +12,7 @@ pub take_recalled-requires-clause-running : goal.take_recalled-requires-clause-r
 take_recalled-requires-clause-running g c κs ls = c.requires.ready.running
 
 pub take_recalled-requires-clause-turn : goal.take_recalled-requires-clause-turn
-take_recalled-requires-clause-turn g c κs ls = may_take_before_meal c.args.self.now.manner c.args.self.now.skips c.args.self.now.core c.in-Some.ensures.some.0 c.requires.next
+take_recalled-requires-clause-turn g c κs ls = may_take_before_meal c.args.self.now.manner c.args.self.now.tally c.args.self.now.core c.in-Some.ensures.some.0 c.requires.next
 
 pub returns-in-Some-clause-proceeds : goal.returns-in-Some-clause-proceeds
 returns-in-Some-clause-proceeds g c =

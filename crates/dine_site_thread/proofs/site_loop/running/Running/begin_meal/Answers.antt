@@ -19,7 +19,7 @@ take_where_rung-requires-clause-running g c κs ls =
     let old = c.args.self.now in
     let bell = c.check_bell.new.self.bell in
     let heard = subst (λ (run : Running _ _ _ _ _). Proceeds g.L.Lane g.D.Diner IsRunning old run) (sym c.check_bell.ensures.rest)
-    (proceeds_heard g.L.Lane g.D.Diner old bell c.check_bell.new.self.skips c.check_bell.new.self.log (ap (λ (b : SeenBell). b.refused) c.in-Some.ensures.bell) (ap (λ (b : SeenBell). b.degree) c.in-Some.ensures.bell) (ap (λ (b : SeenBell). b.identity) c.in-Some.ensures.bell) c.requires.ready.ready) in
+    (proceeds_heard g.L.Lane g.D.Diner old bell c.check_bell.new.self.tally c.check_bell.new.self.log (ap (λ (b : SeenBell). b.refused) c.in-Some.ensures.bell) (ap (λ (b : SeenBell). b.degree) c.in-Some.ensures.bell) (ap (λ (b : SeenBell). b.identity) c.in-Some.ensures.bell) c.requires.ready.ready) in
     (may_then g.L.Lane g.D.Diner c.requires.ready heard).running
 
 pub returns-in-Some-clause-proceeds : goal.returns-in-Some-clause-proceeds
@@ -27,7 +27,7 @@ returns-in-Some-clause-proceeds g c =
     let old = c.args.self.now in
     let bell = c.check_bell.new.self.bell in
     let heard = subst (λ (run : Running _ _ _ _ _). Proceeds g.L.Lane g.D.Diner IsRunning old run) (sym c.check_bell.ensures.rest)
-    (proceeds_heard g.L.Lane g.D.Diner old bell c.check_bell.new.self.skips c.check_bell.new.self.log (ap (λ (b : SeenBell). b.refused) c.in-Some.ensures.bell) (ap (λ (b : SeenBell). b.degree) c.in-Some.ensures.bell) (ap (λ (b : SeenBell). b.identity) c.in-Some.ensures.bell) c.requires.ready.ready) in
+    (proceeds_heard g.L.Lane g.D.Diner old bell c.check_bell.new.self.tally c.check_bell.new.self.log (ap (λ (b : SeenBell). b.refused) c.in-Some.ensures.bell) (ap (λ (b : SeenBell). b.degree) c.in-Some.ensures.bell) (ap (λ (b : SeenBell). b.identity) c.in-Some.ensures.bell) c.requires.ready.ready) in
     proceeds_then g.L.Lane g.D.Diner (GoesOn c.take_where_rung.result) heard
     (proceeds_same g.L.Lane g.D.Diner (GoesOn c.take_where_rung.result) c.check_bell.new.self c.take_where_rung.new.self c.take_where_rung.ensures.same heard.ready c.take_where_rung.ensures.way)
 
@@ -37,7 +37,7 @@ returns-in-Some-clause-checks g c first are =
     let bell = c.check_bell.new.self.bell in
     c.take_where_rung.ensures.checks first
     (subst (λ (run : Running _ _ _ _ _). HasChecked first run) (sym c.check_bell.ensures.rest)
-    (checks_as first old.manner old.skips c.check_bell.new.self.skips old.bell.found_empty bell.found_empty old.clock.events old.journal.items c.in-Some.ensures.skips (ap (λ (b : SeenBell). b.found_empty) c.in-Some.ensures.bell) are))
+    (checks_as first old.manner old.tally c.check_bell.new.self.tally old.bell.found_empty bell.found_empty old.clock.events old.journal.items c.in-Some.ensures.tally (ap (λ (b : SeenBell). b.found_empty) c.in-Some.ensures.bell) are))
 
 -- ---- none is left
 
@@ -47,7 +47,7 @@ eat-requires-clause-ready g c κs ls =
     let bell = c.check_bell.new.self.bell in
     let events = length old.clock.events in
     let heard = subst (λ (run : Running _ _ _ _ _). Proceeds g.L.Lane g.D.Diner IsRunning old run) (sym c.check_bell.ensures.rest)
-    (proceeds_heard g.L.Lane g.D.Diner old bell c.check_bell.new.self.skips c.check_bell.new.self.log (ap (λ (b : SeenBell). b.refused) c.in-None.ensures.bell ∙ same_refused old.manner old.skips events old.bell) (ap (λ (b : SeenBell). b.degree) c.in-None.ensures.bell ∙ same_degree old.manner old.skips events old.bell) (ap (λ (b : SeenBell). b.identity) c.in-None.ensures.bell ∙ same_identity old.manner old.skips events old.bell) c.requires.ready.ready) in
+    (proceeds_heard g.L.Lane g.D.Diner old bell c.check_bell.new.self.tally c.check_bell.new.self.log (ap (λ (b : SeenBell). b.refused) c.in-None.ensures.bell ∙ same_refused old.manner old.tally events old.bell) (ap (λ (b : SeenBell). b.degree) c.in-None.ensures.bell ∙ same_degree old.manner old.tally events old.bell) (ap (λ (b : SeenBell). b.identity) c.in-None.ensures.bell ∙ same_identity old.manner old.tally events old.bell) c.requires.ready.ready) in
     may_then g.L.Lane g.D.Diner c.requires.ready heard
 
 pub returns-in-None-clause-proceeds : goal.returns-in-None-clause-proceeds
@@ -56,7 +56,7 @@ returns-in-None-clause-proceeds g c =
     let bell = c.check_bell.new.self.bell in
     let events = length old.clock.events in
     let heard = subst (λ (run : Running _ _ _ _ _). Proceeds g.L.Lane g.D.Diner IsRunning old run) (sym c.check_bell.ensures.rest)
-    (proceeds_heard g.L.Lane g.D.Diner old bell c.check_bell.new.self.skips c.check_bell.new.self.log (ap (λ (b : SeenBell). b.refused) c.in-None.ensures.bell ∙ same_refused old.manner old.skips events old.bell) (ap (λ (b : SeenBell). b.degree) c.in-None.ensures.bell ∙ same_degree old.manner old.skips events old.bell) (ap (λ (b : SeenBell). b.identity) c.in-None.ensures.bell ∙ same_identity old.manner old.skips events old.bell) c.requires.ready.ready) in
+    (proceeds_heard g.L.Lane g.D.Diner old bell c.check_bell.new.self.tally c.check_bell.new.self.log (ap (λ (b : SeenBell). b.refused) c.in-None.ensures.bell ∙ same_refused old.manner old.tally events old.bell) (ap (λ (b : SeenBell). b.degree) c.in-None.ensures.bell ∙ same_degree old.manner old.tally events old.bell) (ap (λ (b : SeenBell). b.identity) c.in-None.ensures.bell ∙ same_identity old.manner old.tally events old.bell) c.requires.ready.ready) in
     proceeds_then g.L.Lane g.D.Diner IsRunning heard c.eat.ensures.proceeds
 
 pub returns-in-None-clause-checks : goal.returns-in-None-clause-checks
@@ -66,8 +66,8 @@ returns-in-None-clause-checks g c first are =
     let manner = c.eat.ensures.proceeds.manner ∙ ap (λ (run : Running _ _ _ _ _). run.manner) rest in
     let noted = c.eat.ensures.noted ∙ ap (λ (run : Running _ _ _ _ _). length run.clock.events + 2) rest in
     let journal = c.eat.ensures.journal ∙ ap (λ (run : Running _ _ _ _ _). run.journal.items ++ event.Begin ∷ event.End ∷ []) rest in
-    subst (λ (m : Manner). AreChecks first m c.eat.new.self.skips c.eat.new.self.bell.found_empty c.eat.new.self.clock.events c.eat.new.self.journal.items) (sym manner)
-    (checks_meal first old.manner old.skips c.eat.new.self.skips old.bell c.eat.new.self.bell old.clock.events c.eat.new.self.clock.events old.journal.items c.eat.new.self.journal.items (c.eat.ensures.bell ∙ c.in-None.ensures.bell) (c.eat.ensures.skips ∙ c.in-None.ensures.skips) journal noted are)
+    subst (λ (m : Manner). AreChecks first m c.eat.new.self.tally c.eat.new.self.bell.found_empty c.eat.new.self.clock.events c.eat.new.self.journal.items) (sym manner)
+    (checks_meal first old.manner old.tally c.eat.new.self.tally old.bell c.eat.new.self.bell old.clock.events c.eat.new.self.clock.events old.journal.items c.eat.new.self.journal.items (c.eat.ensures.bell ∙ c.in-None.ensures.bell) (c.eat.ensures.tally ∙ c.in-None.ensures.tally) journal noted are)
 
 pub returns-in-Some-clause-timed : goal.returns-in-Some-clause-timed
 returns-in-Some-clause-timed g c =
@@ -79,7 +79,7 @@ returns-in-None-clause-timed g c = subst (λ (run : Running _ _ _ _ _). IsTimedR
 pub take_where_rung-requires-clause-turn : goal.take_where_rung-requires-clause-turn
 take_where_rung-requires-clause-turn g c κs ls =
     let old = c.args.self.now in
-    subst (λ (run : Running _ _ _ _ _). MayTakeNow run.manner run.core) (sym c.check_bell.ensures.rest) (may_take_before_meal old.manner old.skips old.core c.in-Some.ensures.checking c.requires.next)
+    subst (λ (run : Running _ _ _ _ _). MayTakeNow run.manner run.core) (sym c.check_bell.ensures.rest) (may_take_before_meal old.manner old.tally old.core c.in-Some.ensures.checking c.requires.next)
 
 pub eat-requires-clause-may : goal.eat-requires-clause-may
 eat-requires-clause-may g c κs ls = subst (λ (run : Running _ _ _ _ _). can_by_itself run.core event.Begin ≡ true) (sym c.check_bell.ensures.rest) c.requires.may
@@ -96,8 +96,8 @@ returns-in-Some-clause-works g c plan given was =
     let old = c.args.self.now in
     let bell = c.check_bell.new.self.bell in
     let runs = heard_runs plan given (seen_run g.L.Lane old) bell (ap (λ (b : SeenBell). b.refused) c.in-Some.ensures.bell) was.0 in
-    let memo : Memo = record (memo_of old) { skips = c.check_bell.new.self.skips } in
-    let worked = subst (λ (n : ℕ). HasWorked old.manner plan old.core.site old.journal.items was.0.state (record (memo_of old) { skips = n }) old.log.deeds) (sym c.in-Some.ensures.skips) was.1 in
+    let memo : Memo = record (memo_of old) { tally = c.check_bell.new.self.tally } in
+    let worked = subst (λ (n : ℕ). HasWorked old.manner plan old.core.site old.journal.items was.0.state (record (memo_of old) { tally = n }) old.log.deeds) (sym c.in-Some.ensures.tally) was.1 in
     c.take_where_rung.ensures.works plan given
     (subst (λ (run : Running _ _ _ _ _). HasHeardAt c.in-Some.i plan given (seen_run g.L.Lane run) (memo_of run) run.log.deeds) (sym c.check_bell.ensures.rest) (runs, old.log.deeds, None, worked, c.in-Some.ensures.log, tt))
 
@@ -106,8 +106,8 @@ unfolding heard_runs
 returns-in-None-clause-works g c plan given was =
     let old = c.args.self.now in
     let bell = c.check_bell.new.self.bell in
-    let runs = heard_runs plan given (seen_run g.L.Lane old) bell (ap (λ (b : SeenBell). b.refused) c.in-None.ensures.bell ∙ same_refused old.manner old.skips (length old.clock.events) old.bell) was.0 in
+    let runs = heard_runs plan given (seen_run g.L.Lane old) bell (ap (λ (b : SeenBell). b.refused) c.in-None.ensures.bell ∙ same_refused old.manner old.tally (length old.clock.events) old.bell) was.0 in
     let memo : Memo = memo_of old in
-    let counted = ap (λ (n : ℕ). record memo { skips = n }) c.in-None.ensures.skips in
+    let counted = ap (λ (n : ℕ). record memo { tally = n }) c.in-None.ensures.tally in
     c.eat.ensures.works plan given
     (subst (λ (run : Running _ _ _ _ _). IsToEat plan given (seen_run g.L.Lane run) (memo_of run) run.log.deeds) (sym c.check_bell.ensures.rest) (runs, memo, old.log.deeds, was.1, (λ checks. c.requires.recalled checks plan was.0.state was.0.has.keeps was.0.has.stands), c.in-None.ensures.log, counted))

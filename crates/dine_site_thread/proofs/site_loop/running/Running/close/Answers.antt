@@ -59,8 +59,8 @@ returns-in-Unheard-clause-way g c plan given putting =
     let stops = unheard_stops plan given run c.args.i letter.Close putting there.0 (port_after_unheard_close c.last-stamp.result.at there.0) there.1 (record { tx = refl; rx = refl; bell = refl; number = refl })
     (stops-closed_unheard (traffic_at putting.before c.args.i) there.0 (putting.lists c.args.i there.0 there.1) c.last-stamp.result.at) refl refl in
     let new : SeenRun g.L.Lane.Identity = record { manner = run.manner; core = run.core; ports = seen_ports g.L.Lane c.close_at.new.ports.items; bell = run.bell; journal = run.journal } in
-    let stopped : IsStopped None (fault.Lost (length c.args.self.now.core.places)) plan given new =
-    subst (λ (ps : List (SeenPort g.L.Lane.Identity)). IsStopped None (fault.Lost (length c.args.self.now.core.places)) plan given (record { manner = run.manner; core = run.core; ports = ps; bell = run.bell; journal = run.journal })) (sym ports) stops in
+    let stopped : IsStopped None (fault.LostBell (length c.args.self.now.core.places)) plan given new =
+    subst (λ (ps : List (SeenPort g.L.Lane.Identity)). IsStopped None (fault.LostBell (length c.args.self.now.core.places)) plan given (record { manner = run.manner; core = run.core; ports = ps; bell = run.bell; journal = run.journal })) (sym ports) stops in
     subst (λ (stop : Stop). IsStopped stop.stray stop.fault plan given new) (sym c.lost_bell.ensures) stopped
 
 pub returns-in-Heard-clause-timed : goal.returns-in-Heard-clause-timed

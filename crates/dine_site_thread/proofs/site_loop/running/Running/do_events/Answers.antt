@@ -4,7 +4,7 @@ use Rattle.std.specs.List.{range_with_len}
 use Rattle.dine_site.specs.NextEvent.{can_by_itself, own_kinds}
 use Rattle.dine_site_thread.specs.declared.site_loop.running.Stop.{Stop}
 use Rattle.dine_site_thread.specs.private.Running.{GoesOn, IsIdle, IsRunning, IsTimedRun, IsWorking, Proceeds, WorksOn}
-use Rattle.dine_site_thread.proofs.shared.lists.Lists.{found_passes}
+use Rattle.dine_rules.proofs.shared.lists.Finds.{found_passes}
 use Rattle.dine_site_thread.proofs.one_site.Proceeding.{may_then, proceeds_not, proceeds_then}
 use Rattle.dine_site_thread.proofs.site_loop.running.Running.do_events.Goals as goal
 

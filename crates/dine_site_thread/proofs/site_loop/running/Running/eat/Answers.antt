@@ -85,7 +85,7 @@ returns g c =
                 (meal_logged old.manner memo before old.log.deeds c.note.new.log.deeds c.note-2.new.log.deeds checked c.note.ensures.log c.note-2.ensures.log failed),
           );
       noted = two_more old.clock.events c.note.new.clock.events c.note-2.new.clock.events _ _ c.note.ensures.clock c.note-2.ensures.clock;
-      skips = refl;
+      tally = refl;
     }
 
 pub eat-requires-clause-own : goal.eat-requires-clause-own

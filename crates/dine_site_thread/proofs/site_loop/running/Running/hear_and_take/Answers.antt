@@ -51,7 +51,7 @@ pub returns-in-Ok-clause-checks : goal.returns-in-Ok-clause-checks
 returns-in-Ok-clause-checks g c first are =
     let old = c.args.self.now in
     c.take_where_rung.ensures.checks first
-    (checks_as first old.manner old.skips old.skips old.bell.found_empty c.wait_for.new.self.found_empty old.clock.events old.journal.items refl (ap (λ (b : SeenBell). b.found_empty) c.in-Ok.ensures.reported) are)
+    (checks_as first old.manner old.tally old.tally old.bell.found_empty c.wait_for.new.self.found_empty old.clock.events old.journal.items refl (ap (λ (b : SeenBell). b.found_empty) c.in-Ok.ensures.reported) are)
 
 pub returns-in-Err-clause-same : goal.returns-in-Err-clause-same
 returns-in-Err-clause-same g c = record {
@@ -72,7 +72,7 @@ returns-in-Err-clause-same g c = record {
 pub returns-in-Err-clause-checks : goal.returns-in-Err-clause-checks
 returns-in-Err-clause-checks g c first are =
     let old = c.args.self.now in
-    checks_as first old.manner old.skips old.skips old.bell.found_empty c.wait_for.new.self.found_empty old.clock.events old.journal.items refl (ap (λ (b : SeenBell). b.found_empty) c.in-Err.ensures.reported) are
+    checks_as first old.manner old.tally old.tally old.bell.found_empty c.wait_for.new.self.found_empty old.clock.events old.journal.items refl (ap (λ (b : SeenBell). b.found_empty) c.in-Err.ensures.reported) are
 
 pub returns-in-Ok-clause-timed : goal.returns-in-Ok-clause-timed
 returns-in-Ok-clause-timed g c = c.take_where_rung.ensures.timed

@@ -31,7 +31,7 @@ returns-in-Ok-clause-timed g c timed = subst (λ (kinds : List EventKind). IsTim
 pub returns-in-Ok-clause-checks : goal.returns-in-Ok-clause-checks
 returns-in-Ok-clause-checks g c first are =
     let old = c.args.self.now in
-    subst (λ (kinds : List EventKind). AreChecks first old.manner old.skips old.bell.found_empty old.clock.events kinds) (sym c.reserve.ensures.items) are
+    subst (λ (kinds : List EventKind). AreChecks first old.manner old.tally old.bell.found_empty old.clock.events kinds) (sym c.reserve.ensures.items) are
 
 pub returns-in-Err-clause-same : goal.returns-in-Err-clause-same
 returns-in-Err-clause-same g c = same_but_ports c.args.self.now c.args.self.now.core c.args.self.now.ports c.reserve.new.self c.args.self.now.log refl refl
@@ -42,4 +42,4 @@ returns-in-Err-clause-timed g c timed = subst (λ (kinds : List EventKind). IsTi
 pub returns-in-Err-clause-checks : goal.returns-in-Err-clause-checks
 returns-in-Err-clause-checks g c first are =
     let old = c.args.self.now in
-    subst (λ (kinds : List EventKind). AreChecks first old.manner old.skips old.bell.found_empty old.clock.events kinds) (sym c.reserve.ensures.items) are
+    subst (λ (kinds : List EventKind). AreChecks first old.manner old.tally old.bell.found_empty old.clock.events kinds) (sym c.reserve.ensures.items) are

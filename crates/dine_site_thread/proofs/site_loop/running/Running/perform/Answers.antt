@@ -112,7 +112,7 @@ returns-in-Hungry g c =
     record {
       proceeds = proceeds_same g.L.Lane g.D.Diner (GoesOn (Ok tt)) c.args.self.now new same c.requires.ready.ready (λ plan given running. hungry_runs plan given run c.journals_grow_by_each_event.ensures.event c.hungry.new.self c.note-in-Hungry.new.journal.items c.note-in-Hungry.ensures.journal c.hungry.ensures.step (subst (λ (kind : EventKind). IsNext (Some kind) c.args.self.now.core) c.in-Hungry.is c.requires.next) running);
       timed = λ timed. alone c.args.self.now.clock.events c.args.self.now.journal.items (seen_ports g.L.Lane c.args.self.now.ports.items) event.Hungry (last_moment c.args.self.now.clock.events + 1) (omega arith) timed c.note-in-Hungry.new.journal.items c.note-in-Hungry.ensures.journal c.note-in-Hungry.new.clock.events c.note-in-Hungry.ensures.clock refl;
-      checks = λ first are. checks_more first c.args.self.now.manner c.args.self.now.skips c.args.self.now.bell.found_empty c.args.self.now.clock.events c.args.self.now.journal.items event.Hungry (last_moment c.args.self.now.clock.events + 1) refl c.note-in-Hungry.new.clock.events c.note-in-Hungry.ensures.clock c.note-in-Hungry.new.journal.items c.note-in-Hungry.ensures.journal are;
+      checks = λ first are. checks_more first c.args.self.now.manner c.args.self.now.tally c.args.self.now.bell.found_empty c.args.self.now.clock.events c.args.self.now.journal.items event.Hungry (last_moment c.args.self.now.clock.events + 1) refl c.note-in-Hungry.new.clock.events c.note-in-Hungry.ensures.clock c.note-in-Hungry.new.journal.items c.note-in-Hungry.ensures.journal are;
       works = λ plan given was.
           let next = subst (λ (kind : EventKind). IsNext (Some kind) c.args.self.now.core) c.in-Hungry.is c.requires.next in
           let running = was.0 in
@@ -149,7 +149,7 @@ returns-in-Quit g c =
         expects = λ plan site is. is;
       };
       timed = λ timed. alone c.args.self.now.clock.events c.args.self.now.journal.items (seen_ports g.L.Lane c.args.self.now.ports.items) event.Quit (last_moment c.args.self.now.clock.events + 1) (omega arith) timed c.note-in-Quit.new.journal.items c.note-in-Quit.ensures.journal c.note-in-Quit.new.clock.events c.note-in-Quit.ensures.clock refl;
-      checks = λ first are. checks_more first c.args.self.now.manner c.args.self.now.skips c.args.self.now.bell.found_empty c.args.self.now.clock.events c.args.self.now.journal.items event.Quit (last_moment c.args.self.now.clock.events + 1) refl c.note-in-Quit.new.clock.events c.note-in-Quit.ensures.clock c.note-in-Quit.new.journal.items c.note-in-Quit.ensures.journal are;
+      checks = λ first are. checks_more first c.args.self.now.manner c.args.self.now.tally c.args.self.now.bell.found_empty c.args.self.now.clock.events c.args.self.now.journal.items event.Quit (last_moment c.args.self.now.clock.events + 1) refl c.note-in-Quit.new.clock.events c.note-in-Quit.ensures.clock c.note-in-Quit.new.journal.items c.note-in-Quit.ensures.journal are;
       works = λ plan given was.
           let next = subst (λ (kind : EventKind). IsNext (Some kind) c.args.self.now.core) c.in-Quit.is c.requires.next in
           let running = was.0 in

@@ -75,8 +75,8 @@ returns-in-Unheard-clause-way g c plan given putting =
     let stops = unheard_stops plan given run c.args.i c.args.letter putting old (port_after_unheard_put c.last-stamp.result.at c.args.letter old) at (record { tx = refl; rx = refl; bell = refl; number = refl })
     (stops-unheard (traffic_at putting.before c.args.i) old (putting.lists c.args.i old at) c.last-stamp.result.at c.args.letter putting.open_place) refl refl in
     let new : SeenRun g.L.Lane.Identity = record { manner = run.manner; core = run.core; ports = seen_ports g.L.Lane (set items c.args.i c.put.new.self); bell = run.bell; journal = run.journal } in
-    let there : IsStopped None (fault.Lost (length c.args.self.now.core.places)) plan given new =
-    subst (λ (ps : List (SeenPort g.L.Lane.Identity)). IsStopped None (fault.Lost (length c.args.self.now.core.places)) plan given (record { manner = run.manner; core = run.core; ports = ps; bell = run.bell; journal = run.journal })) (sym ports) stops in
+    let there : IsStopped None (fault.LostBell (length c.args.self.now.core.places)) plan given new =
+    subst (λ (ps : List (SeenPort g.L.Lane.Identity)). IsStopped None (fault.LostBell (length c.args.self.now.core.places)) plan given (record { manner = run.manner; core = run.core; ports = ps; bell = run.bell; journal = run.journal })) (sym ports) stops in
     subst (λ (stop : Stop). IsStopped stop.stray stop.fault plan given new) (sym c.lost_bell.ensures) there
 
 pub returns-in-Heard-clause-timed : goal.returns-in-Heard-clause-timed

@@ -102,7 +102,7 @@ returns-in-Ok-take-clause-timed g c = λ timed.
 pub returns-in-Ok-take-clause-checks : goal.returns-in-Ok-take-clause-checks
 returns-in-Ok-take-clause-checks g c first are =
     let old = c.args.self.now in
-    checks_more first old.manner old.skips old.bell.found_empty old.clock.events old.journal.items (event.Take c.args.i) (last_moment old.clock.events + c.in-Ok.stamp.at + 1) refl
+    checks_more first old.manner old.tally old.bell.found_empty old.clock.events old.journal.items (event.Take c.args.i) (last_moment old.clock.events + c.in-Ok.stamp.at + 1) refl
     c.after-self.result.events c.after-self.ensures c.push_reserved.new.self.items c.push_reserved.ensures.items are
 
 pub returns-in-Ok-take-clause-same : goal.returns-in-Ok-take-clause-same

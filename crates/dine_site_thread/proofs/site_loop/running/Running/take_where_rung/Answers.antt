@@ -1,12 +1,11 @@
-use Rattle.std.proofs.Common.{◌≡◌, ◌≤◌, ◌++◌, ◌∷◌, ℕ, List, Bool, true, slice_set, Some, [], inl, inr, length, refl, sym, ap, subst, ◌∙◌, arith}
+use Rattle.std.proofs.Common.{◌≡◌, ◌≤◌, ◌++◌, ◌∷◌, List, Bool, true, slice_set, [], inl, inr, length, refl, sym, ap, subst, ◌∙◌, arith}
 use Rattle.std.proofs.lemmas.List.{append_assoc, append-nil}
-use Rattle.dine_rules.specs.declared.letters.Letter.{Letter}
 use Rattle.dine_rules.specs.declared.events.EventKind.TheVariants as event
-use Rattle.dine_rules.specs.Steps.{Take, after, may}
+use Rattle.dine_rules.specs.Steps.{Take, after}
 use Rattle.dine_link.specs.declared.deed.Deed.{Deed}
 use Rattle.dine_link.specs.declared.deed.Deed.TheVariants.{Did}
 use Rattle.dine_link.specs.Deeds.{hearing}
-use Rattle.dine_site_thread.specs.Threads.{CallsForNone, HasWorked, Memo, PassesOver, PutsOff, Takes}
+use Rattle.dine_site_thread.specs.Threads.{HasWorked, Memo, PassesOver, PutsOff, Takes}
 use Rattle.dine_site_thread.specs.private.Running.{memo_of}
 use Rattle.dine_site_thread.proofs.one_site.PutOff.{same_from}
 use Rattle.dine_site_thread.proofs.one_site.Working.{worked_more}
