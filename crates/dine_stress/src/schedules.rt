@@ -190,27 +190,37 @@ fn run_jobs<R: Threads + Wait + Print + Copy + Send + 'static>(
     let Ok(gathered) = ran else {
         bail!("the run failed");
     };
-    println!(rt; "edge,lo,hi,lo_meals,hi_meals")?;
+    let values = if has_values(plan) { ",value" } else { "" };
+    println!(rt; "edge,lo,hi,lo_meals,hi_meals{values}")?;
     for fork in gathered.forks.iter() {
         print_edge(rt, plan, fork)?;
     }
     Ok(())
 }
 
-// Prints the meals of both ends of an edge.
+// Returns whether the table of this plan has a column of values.
+fn has_values(plan: &Plan) -> bool {
+    plan.version() == 2
+}
+
+// Prints the meals of both ends of an edge, and the value in its fork.
 fn print_edge<R: Print>(rt: &R, plan: &Plan, fork: &Fork) -> Result<()> {
     let (lower, higher) = fork.ends();
     if lower >= plan.sites() || higher >= plan.sites() {
         bail!("the fork is of another plan");
     }
     let (edge, ate) = (fork.edge(), (fork.meals_of(lower), fork.meals_of(higher)));
-    println!(rt;
+    print!(rt;
         "{edge},{},{},{},{}",
         plan.name(lower),
         plan.name(higher),
         ate.0,
         ate.1
     )?;
+    if has_values(plan) {
+        print!(rt; ",{}", fork.value())?;
+    }
+    println!(rt)?;
     Ok(())
 }
 
